@@ -1,0 +1,7 @@
+pub mod Counts
+pub mod Reading
+pub mod Putting
+pub mod Room
+pub mod Held
+pub mod MemFilesView
+pub mod MemSinkView
