@@ -1,0 +1,12 @@
+pub mod Words
+pub mod HostAnswers
+pub mod Tokens
+pub mod Keywords
+pub mod Grammar
+pub mod Shapes
+pub mod Lines
+pub mod Texts
+pub mod Written
+pub mod Programs
+pub mod Places
+pub mod Lexes

@@ -1,0 +1,46 @@
+-- The programs that the grammar can give, places aside.
+use Rattle.std.specs.Prelude.{◌≡◌, ℕ, ◌+◌, ◌<◌, ◌≤◌, true, List, [], ◌∷◌, length, None}
+use Rattle.std.specs.List.{list_all, sum_by}
+use Rattle.ir_text.specs.Bytes.{is_start, is_name}
+use Rattle.ir_ast.specs.Tokens.{Form, Asked, Each}
+use Rattle.ir_ast.specs.Tokens.Form.{word, local, global}
+use Rattle.ir_ast.specs.Lines.{most_functions, most_instructions, most_registers, block_instructions, block_registers, spell}
+use Rattle.ir_ast.specs.Shapes.{IsShaped}
+use Rattle.ir_ast.specs.declared.program.Function.{Function}
+use Rattle.ir_ast.specs.declared.program.Program.{Program}
+
+-- a letter or `_`, and then letters, digits, `_` and `.`
+abbrev pub IsWord : List ℕ → Type 0
+IsWord [] = ⊥
+IsWord (b ∷ bs) = (is_start b ≡ true) × (list_all is_name bs ≡ true)
+
+-- one or more letters, digits, `_` and `.`
+abbrev pub IsName : List ℕ → Type 0
+IsName name = (0 < length name) × (list_all is_name name ≡ true)
+
+-- a text can have such a token
+abbrev pub IsPossible : Form → Type 0
+IsPossible (word text) = IsWord text
+IsPossible (local name) = IsName name
+IsPossible (global name) = IsName name
+IsPossible _ = Unit {0}
+
+-- the token can stand in a text, and nothing is past its limit there
+abbrev pub CanStand : Asked → Type 0
+CanStand a = IsPossible a.form × (a.fault ≡ None)
+
+pub record IsProgram (p : Program) : Type 0 where
+  pub shaped : IsShaped p
+  pub spelled : Each CanStand (spell p)
+
+-- how many instructions and registers a function has
+abbrev pub function_instructions : Function → ℕ
+function_instructions f = sum_by block_instructions f.blocks
+
+abbrev pub function_registers : Function → ℕ
+function_registers f = length f.params + sum_by block_registers f.blocks
+
+pub record KeepsLimits (p : Program) : Type 0 where
+  pub functions : length p.functions ≤ most_functions
+  pub instructions : sum_by function_instructions p.functions ≤ most_instructions
+  pub registers : Each (λ f. function_registers f ≤ most_registers) p.functions

@@ -1,0 +1,21 @@
+//! Programs of the text language as data, with the places of their tokens; the grammar that says which
+//! tokens each of them is written with; and their canonical text.
+#![tactic(auto)]
+
+mod hosts;
+mod laws;
+mod operators;
+mod printer;
+mod program;
+mod types;
+mod words;
+mod writer;
+
+pub use hosts::{HostEntry, HostRule, HostTable};
+pub use laws::{canonical_is_cut, keeps_limits, one_text};
+pub use operators::{BinaryOp, CastOp, Cond, ModifyOp};
+pub use printer::print;
+pub use program::{
+    Block, Function, Goal, Inst, Jump, Named, Op, Param, Program, Term, TypedVal, Val,
+};
+pub use types::{Attr, Place, ResultTy, Ty, Width};

@@ -1,0 +1,39 @@
+//! Types of values, attributes of pointers and places of allocations.
+use perm_table::RetagKind;
+
+/// The width of an integer, in bits.
+#[derive(Clone, Copy, Debug, PartialEq, Eq)]
+pub enum Width {
+    W8,
+    W16,
+    W32,
+    W64,
+}
+
+/// The type of a value.
+#[derive(Clone, Copy, Debug, PartialEq, Eq)]
+pub enum Ty {
+    Int(Width),
+    Ptr,
+}
+
+/// A pointer that is retagged where a function takes or gives it: how, and on how many bytes.
+#[derive(Clone, Copy, Debug, PartialEq, Eq)]
+pub struct Attr {
+    pub kind: RetagKind,
+    pub size: u32,
+}
+
+/// The result of a function. Without a type it gives nothing.
+#[derive(Clone, Copy, Debug, PartialEq, Eq)]
+pub struct ResultTy {
+    pub ty: Option<Ty>,
+    pub attr: Option<Attr>,
+}
+
+/// Where an allocation is made: on a function's stack, or on the heap.
+#[derive(Clone, Copy, Debug, PartialEq, Eq)]
+pub enum Place {
+    Stack,
+    Heap,
+}
