@@ -1,0 +1,7 @@
+pub mod Pieces
+pub mod Memory
+pub mod Fragments
+pub mod Objects
+pub mod Histories
+pub mod Restriction
+pub mod Examples

@@ -1,0 +1,129 @@
+//! A piece of at most 32 bytes with their fragments, which are kept as runs.
+ghost use Rattle.std.specs.Prelude.{◌≡◌, ◌+◌, ◌<◌, [], ◌∷◌, ◌++◌, length, Some, IfOk, OnOk, OnErr, vec_len, vec_capacity, true};
+ghost use Rattle.history.specs.Pieces.{run_of, fragments_of};
+
+use bsan_ids::{Frag, NoMemory};
+use std::alloc::Global;
+use std::marker::Model;
+
+/// Bytes with fragments that follow one another: byte k of the run has the index `first.index + k`.
+/// Without a first fragment none of the bytes has one.
+#[derive(Clone, Copy, Debug, PartialEq, Eq)]
+pub struct Run {
+    pub len: u8,
+    pub first: Option<Frag>,
+}
+
+/// At most 32 bytes of memory, each with its fragment.
+#[derive(Debug, Drop)]
+pub struct Piece {
+    bytes: Vec<u8>,
+    runs: Vec<Run>,
+}
+
+impl Model for Piece {
+    ghost use Rattle.std.specs.Prelude.{List, ℕ, Option, ◌≡◌, ◌≤◌, length, zip};
+    ghost use Rattle.bsan_ids.specs.declared.numbers.Frag.{Frag};
+
+    ghost Value = { List (ℕ × Option Frag) };
+
+    ghost use Rattle.history.specs.Pieces.{fragments_of, IsRuns};
+
+    ghost view = { λ p. zip p.bytes.items (fragments_of p.runs.items) };
+
+    ghost invariant = { λ p. IsRuns p.bytes.items p.runs.items };
+}
+
+impl Run {
+    /// Whether the run with one more byte ends in this fragment.
+    fn leads_to(&self, frag: Option<Frag>) -> bool
+        requires { self.now.len < 32 }
+        ensures { result ≡ true → run_of (self.now.len + 1) self.now.first ≡ run_of self.now.len self.now.first ++ frag ∷ [] }
+    {
+        match (self.first, frag) {
+            (None, None) => true,
+            (Some(first), Some(next)) => {
+                next.prov == first.prov
+                    && next.index >= first.index
+                    && next.index - first.index == self.len
+            }
+            _ => false,
+        }
+    }
+}
+
+/// Appends a fragment to runs, where there is room for a run.
+fn push_fragment(runs: &mut Vec<Run>, frag: Option<Frag>)
+    requires room { vec_len runs.old < vec_capacity runs.old }
+    requires short { length (fragments_of runs.old.items) < 32 }
+    ensures { fragments_of runs.new.items ≡ fragments_of runs.old.items ++ frag ∷ [] }
+{
+    let next = Run {
+        len: 1,
+        first: frag,
+    };
+    match runs.pop() {
+        Some(last) if last.len < 32 && last.leads_to(frag) => {
+            runs.push_reserved(Run {
+                len: last.len + 1,
+                first: last.first,
+            });
+        }
+        Some(last) => {
+            runs.push_reserved(last);
+            runs.push_reserved(next);
+        }
+        None => runs.push_reserved(next),
+    }
+}
+
+impl Piece {
+    /// A piece of no byte. It takes no memory.
+    pub fn new(alloc: Global) -> Piece
+        ensures { result ≡ [] }
+    {
+        Piece {
+            bytes: Vec::new(alloc),
+            runs: Vec::new(alloc),
+        }
+    }
+
+    /// How many bytes it has.
+    pub fn len(&self) -> usize
+        ensures { result ≡ length self.now }
+    {
+        self.bytes.len()
+    }
+
+    /// Appends a byte with its fragment, to at most 31 that are there.
+    ///
+    /// # Errors
+    ///
+    /// `NoMemory`: want of memory. The piece stays as it was.
+    pub fn push(&mut self, byte: u8, frag: Option<Frag>) -> Result<(), NoMemory>
+        requires { length self.old < 32 }
+        ensures ok { OnOk result (self.new ≡ self.old ++ (byte, frag) ∷ []) }
+        ensures err { OnErr result (self.new ≡ self.old) }
+    {
+        self.bytes.reserve(1)?;
+        self.runs.reserve(1)?;
+        self.bytes.push_reserved(byte);
+        push_fragment(&mut self.runs, frag);
+        Ok(())
+    }
+
+    /// The same piece once more, with memory of its own.
+    ///
+    /// # Errors
+    ///
+    /// `NoMemory`: want of memory.
+    pub fn copy(&self) -> Result<Piece, NoMemory>
+        ensures { IfOk result (λ piece. piece ≡ self.now) }
+    {
+        let alloc = *self.bytes.allocator();
+        Ok(Piece {
+            bytes: Vec::from_slice(alloc, &self.bytes)?,
+            runs: Vec::from_slice(alloc, &self.runs)?,
+        })
+    }
+}

@@ -1,0 +1,38 @@
+use super::*;
+use bsan_ids::{AllocNo, Stamp, ThreadNo};
+use std::alloc::Global;
+use std::test::Fail;
+
+fn copied_in(alloc: Global, stamp: u64, thread: u32) -> Result<Entry, Fail> {
+    let mut piece = Piece::new(alloc);
+    piece.push(7, None)?;
+    Ok(Entry {
+        thread: ThreadNo(thread),
+        stamp: Stamp(stamp),
+        site: 0,
+        alloc: Some(AllocNo(1)),
+        request: Request::CopyIn {
+            at: 0,
+            piece,
+            prov: None,
+        },
+        reply: Reply {
+            plain: Plain::Done,
+            carried: None,
+            verdict: Verdict::Clean,
+        },
+    })
+}
+
+#[test]
+fn a_thread_has_its_entries_in_order(rt: HostRuntime) -> Result<(), Fail> {
+    let mut entries = Vec::new(rt.alloc());
+    for (stamp, thread) in [(4, 0), (5, 1), (6, 1), (7, 0)] {
+        entries.push(copied_in(rt.alloc(), stamp, thread)?)?;
+    }
+    let part = of_thread(rt.alloc(), &entries, ThreadNo(1))?;
+    assert_eq!(rt; part.len(), 2);
+    assert_eq!(rt; part.first().map(|entry| entry.stamp), Some(Stamp(5)));
+    assert_eq!(rt; part.last().map(|entry| entry.stamp), Some(Stamp(6)));
+    Ok(())
+}
