@@ -1,0 +1,179 @@
+//! The plain memory of one allocation: its bytes, whether it is live, and its place.
+#![tactic(auto)]
+
+mod words;
+
+ghost use Rattle.std.specs.Prelude.{◌≡◌, ◌+◌, ◌<◌, ◌≤◌, length, slice_get, slice_set, None, Some, IfOk, OnOk, OnErr};
+ghost use Rattle.std.specs.Result.{result_err};
+ghost use Rattle.history.specs.Memory.{made_memory, next_memory, trap_in, word_at};
+ghost use Rattle.history.specs.declared.entry.Request.TheVariants.{CopyOut, Free, Load, Store};
+ghost use Rattle.ir_ast.specs.Words.{modulus, width_bytes};
+ghost use Rattle.ir_ast.specs.declared.types.Ty.TheVariants.{Int};
+
+use bsan_ids::{ListOf, NoMemory, Span};
+use history::Trap;
+use ir_ast::{Place, Width};
+use std::alloc::Global;
+use std::marker::Model;
+use words::{bytes_in, word, write_word};
+
+/// The bytes of an allocation, whether it is live, and its place. An access traps, and a free too,
+/// where the allocation is freed; an access also where its last byte lies outside. Of two traps
+/// the first of that order comes, and after a trap nothing has changed.
+#[derive(Drop)]
+pub struct ByteMem {
+    bytes: Vec<u8>,
+    live: bool,
+    place: Place,
+}
+
+impl Model for ByteMem {
+    ghost use Rattle.std.specs.Prelude.{◌≤◌, length};
+    ghost use Rattle.history.specs.Memory.{Memory};
+
+    ghost Value = { Memory };
+
+    ghost view = { λ m. record { bytes = m.bytes.items; live = m.live; place = m.place } };
+
+    ghost invariant = { λ m. length m.bytes.items ≤ 1048576 };
+}
+
+impl ByteMem {
+    /// `size` bytes of 0, live: at least one, and at most 1,048,576.
+    pub fn new(alloc: Global, size: u32, place: Place) -> Result<ByteMem, NoMemory>
+        requires some { 1 ≤ size }
+        requires bound { size ≤ 1048576 }
+        ensures { IfOk result (λ m. m ≡ made_memory size place) }
+    {
+        let list = ListOf::repeated(alloc, 0, size)?;
+        Ok(ByteMem {
+            bytes: list.into_vec(),
+            live: true,
+            place,
+        })
+    }
+
+    /// How many bytes there are.
+    pub fn size(&self) -> u32
+        ensures value { result ≡ length self.now.bytes }
+        ensures bound { result ≤ 1048576 }
+    {
+        self.bytes.len() as u32
+    }
+
+    /// Whether the allocation isn't freed.
+    pub fn is_live(&self) -> bool
+        ensures { result ≡ self.now.live }
+    {
+        self.live
+    }
+
+    /// Whether an access to these bytes traps.
+    pub fn check(&self, span: Span) -> Result<(), Trap>
+        ensures trap { result_err result ≡ trap_in self.now (CopyOut span.start span.len None) }
+        ensures within { OnOk result (span.start + span.len ≤ length self.now.bytes) }
+    {
+        if !self.live {
+            return Err(Trap::Freed);
+        }
+        let end = u64::from(span.start) + u64::from(span.len);
+        if end > u64::from(self.size()) {
+            return Err(Trap::OutOfBounds);
+        }
+        Ok(())
+    }
+
+    /// The number of this width in the bytes from `at` on, least byte first.
+    pub fn load(&self, at: u32, width: Width) -> Result<u64, Trap>
+        ensures trap { result_err result ≡ trap_in self.now (Load at (Int width) None) }
+        ensures value { IfOk result (λ word. word ≡ word_at self.now at (width_bytes width)) }
+        ensures bound { IfOk result (λ word. word < modulus width) }
+    {
+        let len = bytes_in(width);
+        self.check(Span { start: at, len })?;
+        let start = at as usize;
+        Ok(word(&self.bytes[start..start + len as usize]))
+    }
+
+    /// Writes a number of this width into the bytes from `at` on, least byte first.
+    pub fn store(&mut self, at: u32, width: Width, value: u64) -> Result<(), Trap>
+        ensures trap { result_err result ≡ trap_in self.old (Store at (Int width) value None None) }
+        ensures ok { OnOk result (self.new ≡ next_memory self.old (Store at (Int width) value None None)) }
+        ensures err { OnErr result (self.new ≡ self.old) }
+    {
+        let len = bytes_in(width);
+        self.check(Span { start: at, len })?;
+        let start = at as usize;
+        write_word(&mut self.bytes[start..start + len as usize], value);
+        Ok(())
+    }
+
+    /// The byte `at`.
+    pub fn byte(&self, at: u32) -> Result<u8, Trap>
+        ensures trap { result_err result ≡ trap_in self.now (CopyOut at 1 None) }
+        ensures value { IfOk result (λ byte. slice_get self.now.bytes at ≡ Some byte) }
+    {
+        self.check(Span { start: at, len: 1 })?;
+        Ok(self.bytes[at as usize])
+    }
+
+    /// Writes the byte `at`.
+    pub fn set_byte(&mut self, at: u32, value: u8) -> Result<(), Trap>
+        ensures trap { result_err result ≡ trap_in self.old (CopyOut at 1 None) }
+        ensures ok { OnOk result (self.new ≡ record self.old { bytes = slice_set self.old.bytes at value }) }
+        ensures err { OnErr result (self.new ≡ self.old) }
+    {
+        self.check(Span { start: at, len: 1 })?;
+        self.bytes[at as usize] = value;
+        Ok(())
+    }
+
+    /// Frees the allocation. Only at its function's return (`stack`) a stack allocation may be
+    /// freed, and then at any offset; else `at` has to be 0 and the place the heap.
+    pub fn free(&mut self, at: u32, stack: bool) -> Result<(), Trap>
+        ensures trap { result_err result ≡ trap_in self.old (Free at stack None) }
+        ensures ok { OnOk result (self.new ≡ next_memory self.old (Free at stack None)) }
+        ensures err { OnErr result (self.new ≡ self.old) }
+    {
+        if !self.live {
+            return Err(Trap::Freed);
+        }
+        if !stack && (at != 0 || self.place == Place::Stack) {
+            return Err(Trap::BadFree);
+        }
+        self.live = false;
+        Ok(())
+    }
+}
+
+#[cfg(test)]
+mod tests {
+    use super::*;
+    use std::test::Fail;
+
+    #[test]
+    fn stores_least_byte_first_and_traps(rt: HostRuntime) -> Result<(), Fail> {
+        let mut memory = ByteMem::new(rt.alloc(), 8, Place::Stack)?;
+        assert_eq!(rt; memory.load(0, Width::W64), Ok(0));
+        assert_eq!(rt; memory.store(2, Width::W32, 0x1_0403_0201), Ok(()));
+        assert_eq!(rt; memory.byte(2), Ok(1));
+        assert_eq!(rt; memory.byte(5), Ok(4));
+        assert_eq!(rt; memory.byte(6), Ok(0));
+        assert_eq!(rt; memory.set_byte(7, 0xFF), Ok(()));
+        assert_eq!(rt; memory.load(4, Width::W32), Ok(0xFF00_0403));
+        assert_eq!(rt; memory.load(1, Width::W64), Err(Trap::OutOfBounds));
+        assert_eq!(rt; memory.store(7, Width::W16, 0), Err(Trap::OutOfBounds));
+        assert_eq!(rt; memory.byte(8), Err(Trap::OutOfBounds));
+        assert_eq!(rt; memory.set_byte(u32::MAX, 1), Err(Trap::OutOfBounds));
+        assert_eq!(rt; memory.load(6, Width::W16), Ok(0xFF00));
+        assert_eq!(rt; memory.free(0, false), Err(Trap::BadFree));
+        assert_eq!(rt; memory.free(0, true), Ok(()));
+        assert_eq!(rt; memory.free(0, true), Err(Trap::Freed));
+        assert_eq!(rt; memory.load(9, Width::W8), Err(Trap::Freed));
+        assert_eq!(rt; memory.byte(0), Err(Trap::Freed));
+        let mut memory = ByteMem::new(rt.alloc(), 1, Place::Heap)?;
+        assert_eq!(rt; memory.free(1, false), Err(Trap::BadFree));
+        assert_eq!(rt; memory.free(0, false), Ok(()));
+        Ok(())
+    }
+}

@@ -1,0 +1,7 @@
+//! The protectors of a thread's frames: for each frame the provenances whose nodes its entry retags made.
+#![tactic(auto)]
+
+mod frame;
+mod frames;
+
+pub use frames::Frames;
