@@ -1,0 +1,4 @@
+use Rattle.turn_lock.proofs.tests.+descend.Given as goal
+
+abbrev pub decreases-descend : goal.decreases-descend
+decreases-descend g l = l.depth

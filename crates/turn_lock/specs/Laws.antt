@@ -1,0 +1,31 @@
+-- What the rule says of all desks at every moment, and what the weights of a history tell.
+use Rattle.std.specs.Prelude.{◌≡◌, ◌≢◌, ℕ, ◌+◌, ◌%◌, ◌^◌, ◌<◌, ◌≤◌, true, List, sum_by, slice_index}
+use mathlib.Core.Option.{some}
+use lib.ListN.{get_elem?}
+use Rattle.history.specs.declared.entry.Entry.{Entry}
+use Rattle.turn_lock.specs.declared.view.View.{View}
+use Rattle.turn_lock.specs.Weights.{equals, stamp_weight, alloc_weight, thread_weight}
+use Rattle.turn_lock.specs.Rule.{Rising}
+
+-- entries whose stamps rise are told by their weights
+abbrev pub WeightsTellHistories : Type 0
+WeightsTellHistories = (xs ys : List Entry) → Rising xs → Rising ys → ((h : Entry → ℕ) → sum_by h xs ≡ sum_by h ys) → xs ≡ ys
+
+-- of one kind of number: none stands on two desks, or twice on one
+pub record IsOnOneDesk (weight : (ℕ → ℕ) → View → ℕ) (views : List View) : Type 0 where
+  pub once : (i : ℕ) (v : View) → get_elem? views i ≡ some v → (n : ℕ) → weight (equals n) v ≤ 1
+  pub apart : (i j : ℕ) (v u : View) → i ≢ j → get_elem? views i ≡ some v → get_elem? views j ≡ some u → (n : ℕ) → 1 ≤ weight (equals n) v → weight (equals n) u ≡ 0
+
+-- two desks that are there have different names and different numbers
+pub record DesksDiffer (views : List View) : Type 0 where
+  pub names : (i j : ℕ) (v u : View) → i ≢ j → get_elem? views i ≡ some v → get_elem? views j ≡ some u → v.live ≡ true → u.live ≡ true → v.name ≢ u.name
+  pub stamps : IsOnOneDesk stamp_weight views
+  pub allocs : IsOnOneDesk alloc_weight views
+  pub threads : IsOnOneDesk thread_weight views
+
+-- each word that counts is so small that the next draw leaves one more
+pub record NoDrawWraps (words : List ℕ) : Type 0 where
+  pub stamps : slice_index words 0 ≤ 4001024
+  pub allocs : slice_index words 1 ≤ 66560
+  pub threads : slice_index words 2 ≤ 2047
+  pub next : (k : ℕ) → k < 3 → (slice_index words k + 1) % 2 ^ 64 ≡ slice_index words k + 1

@@ -1,0 +1,7 @@
+pub mod Weights
+pub mod Rule
+pub mod Steps
+pub mod Plays
+pub mod Closing
+pub mod Laws
+pub mod Journals

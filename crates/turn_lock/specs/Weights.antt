@@ -1,0 +1,84 @@
+-- Sums over numbers and entries, by which the rule says what stands in which view, and how often: an equation for each way of weighing.
+use Rattle.std.specs.Prelude.{ℕ, zero, suc, ◌+◌, Bool, cond, eqb, leb, List, [], ◌∷◌, max, sum_by, Option, Some, None}
+use Rattle.history.specs.declared.entry.Entry.{Entry}
+use Rattle.bsan_ids.specs.declared.numbers.AllocNo.{AllocNo}
+use Rattle.history.specs.Histories as histories
+use Rattle.turn_lock.specs.declared.view.HeldTurn.{HeldTurn}
+use Rattle.turn_lock.specs.declared.view.Drawn.{Drawn}
+use Rattle.turn_lock.specs.declared.view.View.{View}
+
+-- All that the rule sees of an entry: its stamp, the number that it names (0 where it names none), and whether it is a Make.
+abbrev pub stamp_of : Entry → ℕ
+stamp_of e = e.stamp.0
+
+abbrev pub number_in : Option AllocNo → ℕ
+number_in None = 0
+number_in (Some a) = a.0
+
+abbrev pub number_of : Entry → ℕ
+number_of e = number_in e.alloc
+
+abbrev pub is_make : Entry → Bool
+is_make e = histories.is_make e.request
+
+-- the weights of the numbers from 1 to n, added up
+abbrev pub sum_up_to : (ℕ → ℕ) → ℕ → ℕ
+sum_up_to h zero = 0
+sum_up_to h (suc n) = sum_up_to h n + h (suc n)
+
+-- 1 for numbers above the limit
+abbrev pub above : ℕ → ℕ → ℕ
+above limit n = cond (leb n limit) 0 1
+
+-- 1 for this number
+abbrev pub equals : ℕ → ℕ → ℕ
+equals m n = cond (eqb n m) 1 0
+
+abbrev pub one : ℕ → ℕ
+one n = 1
+
+-- the weight of the entries that name this number
+abbrev pub naming : ℕ → (Entry → ℕ) → Entry → ℕ
+naming n h e = cond (eqb (number_of e) n) (h e) 0
+
+-- 1 for a Make of this number
+abbrev pub makes : ℕ → Entry → ℕ
+makes n e = cond (is_make e) (cond (eqb (number_of e) n) 1 0) 0
+
+module _ (h : ℕ → ℕ) where
+  abbrev pub drawn : Drawn → ℕ
+  drawn d = sum_by h d.own + sum_by h d.joined
+
+  abbrev pub stamp_weight : View → ℕ
+  stamp_weight v = drawn v.stamps
+
+  abbrev pub alloc_weight : View → ℕ
+  alloc_weight v = drawn v.allocs
+
+  abbrev pub thread_weight : View → ℕ
+  thread_weight v = drawn v.threads
+
+  abbrev pub name_weight : View → ℕ
+  name_weight v = cond v.live (h v.name) 0
+
+  abbrev pub out_weight : View → ℕ
+  out_weight v = sum_by h v.outs
+
+module _ (h : Entry → ℕ) where
+  abbrev pub call_weight : View → ℕ
+  call_weight v = sum_by h v.calls
+
+  abbrev pub told_weight : View → ℕ
+  told_weight v = sum_by h v.told
+
+abbrev pub holds_turn : ℕ → Option HeldTurn → ℕ
+holds_turn k None = 0
+holds_turn k (Some t) = cond (eqb t.slot k) 1 0
+
+abbrev pub turn_weight : ℕ → View → ℕ
+turn_weight k v = holds_turn k v.turn
+
+-- the greatest stamp among the entries
+abbrev pub latest : List Entry → ℕ
+latest [] = 0
+latest (e ∷ es) = max (stamp_of e) (latest es)
