@@ -1,0 +1,3 @@
+pub mod Reportable
+pub mod Lines
+pub mod Samples

@@ -1,0 +1,49 @@
+-- The record of the tests is one of which a report can be made.
+use Rattle.std.proofs.Common.{◌≡◌, List, [], ◌∷◌, ◌++◌, map, nat_eq, refl, sym, ap, ◌∙◌, subst, arith, All}
+use Rattle.std.specs.List.{flat_map, IsDistinct}
+use Rattle.std.proofs.lemmas.List.Elements.{All-cons}
+use Rattle.history.specs.declared.entry.Entry.{Entry}
+use Rattle.run_record.specs.declared.log.ThreadLog.{ThreadLog}
+use Rattle.run_record.specs.declared.log.AllocLog.{AllocLog}
+use Rattle.run_record.specs.declared.record.RunRecord.{RunRecord}
+use Rattle.run_record.specs.Merge.{stamp_of, thread_entries, alloc_entries}
+use Rattle.report.specs.Violation.{IsDescribable}
+use Rattle.report.specs.Report.{IsReportable}
+use Rattle.report.proofs.Reportable.{IsDescribed}
+
+none_described : All IsDescribed []
+none_described k d lt = absurd (omega arith)
+
+one_described : (e : Entry) (es : List Entry) → IsDescribable e → All IsDescribed es → All IsDescribed (e ∷ es)
+one_described e es h more = All-cons IsDescribed e es (λ violation. h) more
+
+distinct_threads : (a b c : Entry) → stamp_of a ≡ 1 → stamp_of b ≡ 4 → stamp_of c ≡ 3 → IsDistinct nat_eq (map stamp_of (a ∷ b ∷ c ∷ []))
+unfolding IsDistinct
+distinct_threads a b c p q r = simp (p, q, r) ((refl, (refl, tt)), ((refl, tt), (tt, tt)))
+
+distinct_allocs : (a b c : Entry) → stamp_of a ≡ 6 → stamp_of b ≡ 7 → stamp_of c ≡ 5 → IsDistinct nat_eq (map stamp_of (a ∷ b ∷ c ∷ []))
+unfolding IsDistinct
+distinct_allocs a b c p q r = simp (p, q, r) ((refl, (refl, tt)), ((refl, tt), (tt, tt)))
+
+pub sample_reportable : (kept : RunRecord) (main child : ThreadLog) (first second : AllocLog) (a b c x y z : Entry)
+    → kept.threads ≡ main ∷ child ∷ [] → main.entries ≡ a ∷ b ∷ [] → child.entries ≡ c ∷ []
+    → kept.allocs ≡ first ∷ second ∷ [] → first.entries ≡ x ∷ y ∷ [] → second.entries ≡ z ∷ []
+    → stamp_of a ≡ 1 → stamp_of b ≡ 4 → stamp_of c ≡ 3 → stamp_of x ≡ 6 → stamp_of y ≡ 7 → stamp_of z ≡ 5
+    → IsDescribable x → IsDescribable y → IsDescribable z → IsReportable kept
+sample_reportable kept main child first second a b c x y z threads m n allocs f s pa pb pc px py pz hx hy hz =
+    let of_threads : thread_entries kept ≡ a ∷ b ∷ c ∷ [] =
+    ap (flat_map (λ (log : ThreadLog). log.entries)) threads ∙ ap (λ (es : List Entry). es ++ (child.entries ++ [])) m ∙ ap (λ (es : List Entry). a ∷ b ∷ (es ++ [])) n in
+    let of_allocs : alloc_entries kept ≡ x ∷ y ∷ z ∷ [] =
+    ap (flat_map (λ (log : AllocLog). log.entries)) allocs ∙ ap (λ (es : List Entry). es ++ (second.entries ++ [])) f ∙ ap (λ (es : List Entry). x ∷ y ∷ (es ++ [])) s in
+    let P : AllocLog → Type 0 = λ log. All IsDescribed log.entries in
+    let in_first : All IsDescribed first.entries = subst (λ (es : List Entry). All IsDescribed es) (sym f) (one_described x (y ∷ []) hx (one_described y [] hy none_described)) in
+    let in_second : All IsDescribed second.entries = subst (λ (es : List Entry). All IsDescribed es) (sym s) (one_described z [] hz none_described) in
+    let no_logs : All (λ (log : AllocLog). All IsDescribed log.entries) [] = λ k d lt. absurd (omega arith) in
+    record {
+      distinct = record {
+        threads = subst (λ (es : List Entry). IsDistinct nat_eq (map stamp_of es)) (sym of_threads) (distinct_threads a b c pa pb pc);
+        allocs = subst (λ (es : List Entry). IsDistinct nat_eq (map stamp_of es)) (sym of_allocs) (distinct_allocs x y z px py pz);
+      };
+      described = subst (λ (logs : List AllocLog). All (λ (log : AllocLog). All IsDescribed log.entries) logs) (sym allocs)
+          (All-cons (λ (log : AllocLog). All IsDescribed log.entries) first (second ∷ []) in_first (All-cons (λ (log : AllocLog). All IsDescribed log.entries) second [] in_second no_logs));
+    }

@@ -1,0 +1,4 @@
+pub mod Words
+pub mod Violation
+pub mod End
+pub mod Report

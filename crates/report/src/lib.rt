@@ -1,0 +1,15 @@
+//! The report of a run: what its threads printed, the first violation on each allocation, how each
+//! thread ended, a summary, and the status.
+#![tactic(auto)]
+
+mod counts;
+mod end;
+mod step;
+#[cfg(test)]
+mod tests;
+mod text;
+mod violation;
+mod words;
+
+pub use text::{part, status_of, text_of};
+pub use violation::{violation_line, what};

@@ -1,0 +1,106 @@
+//! What a step did to an allocation, and through which pointer.
+ghost use Rattle.std.specs.Prelude.{◌≡◌, IfOk, string_bytes};
+ghost use Rattle.ir_ast.specs.Words as sizes;
+ghost use Rattle.report.specs.Violation.{span_text, deed_text, owner_text, tag_text, through_text};
+
+use crate::words::kind_name;
+use bsan_ids::{AllocNo, Prov};
+use history::Request;
+use ir_ast::{Ty, Width};
+use std::alloc::{AllocError, Global};
+
+fn width_bytes(width: Width) -> usize
+    ensures { result ≡ sizes.width_bytes width }
+{
+    match width {
+        Width::W8 => 1,
+        Width::W16 => 2,
+        Width::W32 => 4,
+        Width::W64 => 8,
+    }
+}
+
+fn ty_bytes(ty: Ty) -> usize
+    ensures { result ≡ sizes.ty_bytes ty }
+{
+    match ty {
+        Ty::Int(width) => width_bytes(width),
+        Ty::Ptr => 8,
+    }
+}
+
+fn span(alloc: Global, word: &str, at: u32, len: usize) -> Result<String, AllocError>
+    ensures { IfOk result (λ text. string_bytes text ≡ span_text word.now at len) }
+{
+    let end = u128::from(at) + len as u128;
+    format!(in alloc; "{word} {at}..{end}")
+}
+
+/// What the step of a request did; nothing where it did nothing to an allocation.
+pub fn deed(alloc: Global, request: &Request) -> Result<String, AllocError>
+    ensures { IfOk result (λ text. string_bytes text ≡ deed_text request.now) }
+{
+    match request {
+        Request::Load { at, ty, .. } => span(alloc, "read", *at, ty_bytes(*ty)),
+        Request::CopyOut { at, len, .. } => span(alloc, "read", *at, *len as usize),
+        Request::Store { at, ty, .. } => span(alloc, "write", *at, ty_bytes(*ty)),
+        Request::Modify { at, width, .. } => span(alloc, "write", *at, width_bytes(*width)),
+        Request::CmpXchg { at, width, .. } => span(alloc, "write", *at, width_bytes(*width)),
+        Request::CopyIn { at, piece, .. } => span(alloc, "write", *at, piece.len()),
+        Request::Retag { at, len, kind, .. } => {
+            let bytes = span(alloc, kind_name(*kind), *at, *len as usize)?;
+            format!(in alloc; "retag {bytes}")
+        }
+        Request::Free { .. } => format!(in alloc; "free"),
+        Request::EndProtector { tag } => {
+            let number = tag.0;
+            format!(in alloc; "end of protector {number}")
+        }
+        Request::Make { .. }
+        | Request::Print { .. }
+        | Request::Host { .. }
+        | Request::Spawn { .. }
+        | Request::Join { .. } => Ok(String::new(alloc)),
+    }
+}
+
+fn owner(alloc: Global, number: AllocNo, owner: AllocNo) -> Result<String, AllocError>
+    ensures { IfOk result (λ text. string_bytes text ≡ owner_text number.0 owner.0) }
+{
+    let other = owner.0;
+    if other == number.0 {
+        Ok(String::new(alloc))
+    } else {
+        format!(in alloc; " of allocation {other}")
+    }
+}
+
+fn tag(alloc: Global, number: AllocNo, prov: Option<Prov>) -> Result<String, AllocError>
+    ensures { IfOk result (λ text. string_bytes text ≡ tag_text number.0 prov) }
+{
+    match prov {
+        None => format!(in alloc; " through no tag"),
+        Some(prov) => {
+            let tag = prov.tag.0;
+            let owner = owner(alloc, number, prov.alloc)?;
+            format!(in alloc; " through tag {tag}{owner}")
+        }
+    }
+}
+
+/// Through which pointer the allocation of this number was used.
+pub fn through(alloc: Global, number: AllocNo, request: &Request) -> Result<String, AllocError>
+    ensures { IfOk result (λ text. string_bytes text ≡ through_text number.0 request.now) }
+{
+    match request {
+        Request::Load { prov, .. }
+        | Request::CopyOut { prov, .. }
+        | Request::Store { prov, .. }
+        | Request::Modify { prov, .. }
+        | Request::CmpXchg { prov, .. }
+        | Request::CopyIn { prov, .. }
+        | Request::Retag { prov, .. }
+        | Request::Free { prov, .. } => tag(alloc, number, *prov),
+        _ => Ok(String::new(alloc)),
+    }
+}

@@ -1,0 +1,9 @@
+//! The record of a run: each thread's log, each allocation's log, and how many numbers were drawn.
+#![tactic(auto)]
+
+mod log;
+mod merge;
+mod record;
+
+pub use log::{AllocLog, End, ThreadLog, ThreadTree};
+pub use record::RunRecord;

@@ -1,0 +1,108 @@
+//! The entries of a run in stamp order, and the first violation on each allocation.
+ghost use Rattle.std.specs.Prelude.{◌≡◌, ◌++◌, IfOk, OnOk};
+ghost use Rattle.std.specs.List.{flat_map, filter_map, list_any};
+ghost use Rattle.std.specs.Option.{option_copied};
+ghost use Rattle.run_record.specs.Merge.{IsMerge, HasDistinctStamps, by_stamp, thread_entries, first_found, violates, has_violation, first_violation};
+ghost use Rattle.run_record.specs.Merge as merge;
+
+use crate::log::{AllocLog, ThreadLog};
+use crate::record::RunRecord;
+use bsan_ids::NoMemory;
+use history::{Entry, Verdict};
+use std::alloc::Global;
+
+fn is_violation(entry: &Entry) -> bool
+    ensures { result ≡ violates entry.now }
+{
+    matches!(entry.reply.verdict, Verdict::Violated(_))
+}
+
+impl AllocLog {
+    /// Whether a step on the allocation broke the aliasing rules.
+    pub fn has_violation(&self) -> bool
+        ensures { result ≡ has_violation self.now }
+    {
+        self.entries.as_slice().iter().any(is_violation)
+    }
+
+    /// The first step on the allocation that broke the aliasing rules.
+    pub fn first_violation(&self) -> Option<&Entry>
+        ensures { option_copied result ≡ first_violation self.now }
+    {
+        self.entries
+            .as_slice()
+            .iter()
+            .find(|entry| is_violation(entry))
+    }
+}
+
+fn append_copies(entries: &[Entry], into: &mut Vec<Entry>) -> Result<(), NoMemory>
+    ensures { OnOk result (into.new.items ≡ into.old.items ++ entries.now) }
+{
+    for entry in entries {
+        into.push(entry.copy()?)?;
+    }
+    Ok(())
+}
+
+fn entries_of(alloc: Global, logs: &[ThreadLog]) -> Result<Vec<Entry>, NoMemory>
+    ensures { IfOk result (λ v. v.items ≡ flat_map (λ log. log.entries) logs.now) }
+{
+    let mut entries = Vec::new(alloc);
+    for log in logs {
+        append_copies(log.entries.as_slice(), &mut entries)?;
+    }
+    Ok(entries)
+}
+
+fn violations_of(alloc: Global, logs: &[AllocLog]) -> Result<Vec<Entry>, NoMemory>
+    ensures { IfOk result (λ v. v.items ≡ filter_map first_violation logs.now) }
+{
+    let mut found = Vec::new(alloc);
+    for log in logs {
+        if let Some(entry) = log.first_violation() {
+            found.push(entry.copy()?)?;
+        }
+    }
+    Ok(found)
+}
+
+fn sort_by_stamp(entries: &mut Vec<Entry>) -> Result<(), NoMemory>
+    ensures { OnOk result (entries.new.items ≡ by_stamp entries.old.items) }
+{
+    entries.sort_by_key(|entry| entry.stamp.0)?;
+    Ok(())
+}
+
+impl RunRecord {
+    /// The entries of all threads in the order of their stamps, of which none may stand twice.
+    ///
+    /// # Errors
+    ///
+    /// `NoMemory`: want of memory.
+    pub fn merged(&self, alloc: Global) -> Result<Vec<Entry>, NoMemory>
+        requires { HasDistinctStamps self.now }
+        ensures merged { IfOk result (λ v. v.items ≡ merge.merged self.now) }
+        ensures order { IfOk result (λ v. IsMerge (thread_entries self.now) v.items) }
+    {
+        let mut entries = entries_of(alloc, self.threads.as_slice())?;
+        sort_by_stamp(&mut entries)?;
+        Ok(entries)
+    }
+
+    /// The first entry of each allocation whose step broke the aliasing rules, in the order of
+    /// their stamps, of which none may stand twice.
+    ///
+    /// # Errors
+    ///
+    /// `NoMemory`: want of memory.
+    pub fn first_violations(&self, alloc: Global) -> Result<Vec<Entry>, NoMemory>
+        requires { HasDistinctStamps self.now }
+        ensures found { IfOk result (λ v. v.items ≡ merge.first_violations self.now) }
+        ensures order { IfOk result (λ v. IsMerge (first_found self.now) v.items) }
+    {
+        let mut found = violations_of(alloc, self.allocs.as_slice())?;
+        sort_by_stamp(&mut found)?;
+        Ok(found)
+    }
+}
