@@ -1,0 +1,4 @@
+pub mod NumberLemmas
+pub mod OneProgram
+pub mod Reportable
+pub mod Complete
