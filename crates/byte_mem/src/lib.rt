@@ -15,7 +15,7 @@ use history::Trap;
 use ir_ast::{Place, Width};
 use std::alloc::Global;
 use std::marker::Model;
-use words::{bytes_in, word, write_word};
+use words::{word, write_word};
 
 /// The bytes of an allocation, whether it is live, and its place. An access traps, and a free too,
 /// where the allocation is freed; an access also where its last byte lies outside. Of two traps
@@ -89,7 +89,7 @@ impl ByteMem {
         ensures value { IfOk result (λ word. word ≡ word_at self.now at (width_bytes width)) }
         ensures bound { IfOk result (λ word. word < modulus width) }
     {
-        let len = bytes_in(width);
+        let len = width.bytes();
         self.check(Span { start: at, len })?;
         let start = at as usize;
         Ok(word(&self.bytes[start..start + len as usize]))
@@ -101,7 +101,7 @@ impl ByteMem {
         ensures ok { OnOk result (self.new ≡ next_memory self.old (Store at (Int width) value None None)) }
         ensures err { OnErr result (self.new ≡ self.old) }
     {
-        let len = bytes_in(width);
+        let len = width.bytes();
         self.check(Span { start: at, len })?;
         let start = at as usize;
         write_word(&mut self.bytes[start..start + len as usize], value);

@@ -1,20 +1,6 @@
 //! Numbers in memory, least byte first.
 ghost use Rattle.std.specs.Prelude.{◌≡◌, ◌<◌, ◌≤◌, ◌^◌, length};
-ghost use Rattle.ir_ast.specs.Words.{bytes_of, width_bytes, word_of};
-
-use ir_ast::Width;
-
-/// How many bytes a number of this width has.
-pub(crate) fn bytes_in(width: Width) -> u32
-    ensures { result ≡ width_bytes width }
-{
-    match width {
-        Width::W8 => 1,
-        Width::W16 => 2,
-        Width::W32 => 4,
-        Width::W64 => 8,
-    }
-}
+ghost use Rattle.ir_ast.specs.Words.{bytes_of, word_of};
 
 /// The number that at most eight bytes hold.
 pub(crate) fn word(bytes: &[u8]) -> u64

@@ -1,1 +1,5 @@
 mod Runs
+mod Indexed
+pub mod Order
+mod Sorted
+pub mod Distinct

@@ -4,4 +4,5 @@ pub mod Fragments
 pub mod Objects
 pub mod Histories
 pub mod Restriction
+pub mod Merge
 pub mod Examples

@@ -1,7 +1,11 @@
 -- A piece as its pairs of a byte and a fragment.
-use Rattle.std.specs.Prelude.{ℕ, zero, suc, ◌≡◌, ◌+◌, ◌≤◌, ◌==◌, ◌&&◌, Bool, true, false, Option, Some, None, List, [], ◌∷◌, ◌++◌, length, replicate}
+use Rattle.std.specs.Prelude.{ℕ, zero, suc, ◌≡◌, ◌+◌, ◌≤◌, ◌==◌, ◌&&◌, Bool, true, false, Option, Some, None, MatchOption, List, [], ◌∷◌, ◌++◌, length, replicate, All}
 use Rattle.bsan_ids.specs.declared.numbers.Frag.{Frag}
 use Rattle.history.specs.declared.piece.Run.{Run}
+
+-- a byte of a piece: its value, and its fragment
+abbrev pub Byte : Type 0
+Byte = ℕ × Option Frag
 
 -- the fragments of a run
 abbrev pub run_from : Frag → ℕ → List (Option Frag)
@@ -16,9 +20,14 @@ abbrev pub fragments_of : List Run → List (Option Frag)
 fragments_of [] = []
 fragments_of (run ∷ runs) = run_of run.len run.first ++ fragments_of runs
 
+-- the index of each fragment of a run is a byte
+abbrev pub IsSmall : Run → Type 0
+IsSmall run = MatchOption run.first (Unit {0}) (λ first. first.index + run.len ≤ 256)
+
 pub record IsRuns (bytes : List ℕ) (runs : List Run) : Type 0 where
   pub short : length bytes ≤ 32
   pub long : length (fragments_of runs) ≡ length bytes
+  pub small : All IsSmall runs
 
 abbrev pub same_frag : Option Frag → Option Frag → Bool
 same_frag None None = true

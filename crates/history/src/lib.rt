@@ -5,6 +5,7 @@ mod ask;
 mod entry;
 mod examples;
 mod logged;
+mod merge;
 mod piece;
 mod restriction;
 #[cfg(test)]
@@ -17,6 +18,7 @@ pub use examples::{
     protectors_by_example, provenances_by_example, reborrows_by_example, traps_by_example,
 };
 pub use logged::Logged;
+pub use merge::{append_copies, merge_by_stamp, sort_by_stamp};
 pub use piece::Piece;
 pub use restriction::of_thread;
 pub use trap::Trap;

@@ -1,6 +1,6 @@
 //! A piece of at most 32 bytes with their fragments, which are kept as runs.
-ghost use Rattle.std.specs.Prelude.{◌≡◌, ◌+◌, ◌<◌, [], ◌∷◌, ◌++◌, length, Some, IfOk, OnOk, OnErr, vec_len, vec_capacity, true};
-ghost use Rattle.history.specs.Pieces.{run_of, fragments_of};
+ghost use Rattle.std.specs.Prelude.{◌≡◌, ◌+◌, ◌<◌, ◌≤◌, [], ◌∷◌, ◌++◌, length, slice_get, Some, All, IfOk, OnOk, OnErr, vec_len, vec_capacity, true};
+ghost use Rattle.history.specs.Pieces.{run_of, fragments_of, IsSmall};
 
 use bsan_ids::{Frag, NoMemory};
 use std::alloc::Global;
@@ -38,7 +38,8 @@ impl Run {
     /// Whether the run with one more byte ends in this fragment.
     fn leads_to(&self, frag: Option<Frag>) -> bool
         requires { self.now.len < 32 }
-        ensures { result ≡ true → run_of (self.now.len + 1) self.now.first ≡ run_of self.now.len self.now.first ++ frag ∷ [] }
+        ensures longer { result ≡ true → run_of (self.now.len + 1) self.now.first ≡ run_of self.now.len self.now.first ++ frag ∷ [] }
+        ensures small { result ≡ true → IsSmall (record self.now { len = self.now.len + 1 }) }
     {
         match (self.first, frag) {
             (None, None) => true,
@@ -50,13 +51,49 @@ impl Run {
             _ => false,
         }
     }
+
+    /// The fragment of a byte of the run.
+    #[tactic(auto, using(crate::proofs::Indexed::some_run_at, crate::proofs::Indexed::none_run_at))]
+    fn frag(&self, at: u8) -> Option<Frag>
+        requires within { at < self.now.len }
+        requires small { IsSmall self.now }
+        ensures { slice_get (run_of self.now.len self.now.first) at ≡ Some result }
+    {
+        match self.first {
+            None => None,
+            Some(first) => Some(Frag {
+                prov: first.prov,
+                index: first.index + at,
+            }),
+        }
+    }
+}
+
+/// The fragment of a byte of runs.
+#[tactic(auto, using(crate::proofs::Indexed::first_run_at, crate::proofs::Indexed::later_run_at, crate::proofs::Indexed::length_fragments))]
+fn fragment_at(runs: &[Run], at: usize) -> Option<Frag>
+    requires within { at < length (fragments_of runs.now) }
+    requires small { All IsSmall runs.now }
+    ensures { slice_get (fragments_of runs.now) at ≡ Some result }
+{
+    let mut left = at;
+    for run in runs {
+        let len = run.len as usize;
+        if left < len {
+            return run.frag(left as u8);
+        }
+        left -= len;
+    }
+    None
 }
 
 /// Appends a fragment to runs, where there is room for a run.
 fn push_fragment(runs: &mut Vec<Run>, frag: Option<Frag>)
     requires room { vec_len runs.old < vec_capacity runs.old }
     requires short { length (fragments_of runs.old.items) < 32 }
-    ensures { fragments_of runs.new.items ≡ fragments_of runs.old.items ++ frag ∷ [] }
+    requires small { All IsSmall runs.old.items }
+    ensures fragments { fragments_of runs.new.items ≡ fragments_of runs.old.items ++ frag ∷ [] }
+    ensures small { All IsSmall runs.new.items }
 {
     let next = Run {
         len: 1,
@@ -93,6 +130,15 @@ impl Piece {
         ensures { result ≡ length self.now }
     {
         self.bytes.len()
+    }
+
+    /// The byte at an index below the length, with its fragment.
+    #[tactic(auto, using(crate::proofs::Indexed::pair_at, crate::proofs::Indexed::length_pairs))]
+    pub fn get(&self, at: usize) -> (u8, Option<Frag>)
+        requires { at < length self.now }
+        ensures { slice_get self.now at ≡ Some result }
+    {
+        (self.bytes[at], fragment_at(&self.runs, at))
     }
 
     /// Appends a byte with its fragment, to at most 31 that are there.

@@ -1,9 +1,13 @@
+ghost use Rattle.std.specs.Prelude.{◌≡◌, IfOk};
+
 use super::*;
 use bsan_ids::{AllocNo, Stamp, ThreadNo};
 use std::alloc::Global;
 use std::test::Fail;
 
-fn copied_in(alloc: Global, stamp: u64, thread: u32) -> Result<Entry, Fail> {
+fn copied_in(alloc: Global, stamp: u64, thread: u32) -> Result<Entry, Fail>
+    ensures { IfOk result (λ entry. entry.stamp.0 ≡ stamp) }
+{
     let mut piece = Piece::new(alloc);
     piece.push(7, None)?;
     Ok(Entry {
@@ -34,5 +38,19 @@ fn a_thread_has_its_entries_in_order(rt: HostRuntime) -> Result<(), Fail> {
     assert_eq!(rt; part.len(), 2);
     assert_eq!(rt; part.first().map(|entry| entry.stamp), Some(Stamp(5)));
     assert_eq!(rt; part.last().map(|entry| entry.stamp), Some(Stamp(6)));
+    Ok(())
+}
+
+#[test]
+#[tactic(auto, using(crate::proofs::Distinct::can_merge_two))]
+fn entries_merge_by_stamp(rt: HostRuntime) -> Result<(), Fail> {
+    let mut entries = Vec::new(rt.alloc());
+    entries.push(copied_in(rt.alloc(), 6, 0)?)?;
+    let mut more = Vec::new(rt.alloc());
+    more.push(copied_in(rt.alloc(), 4, 1)?)?;
+    merge_by_stamp(&mut entries, &more)?;
+    assert_eq!(rt; entries.len(), 2);
+    assert_eq!(rt; entries.first().map(|entry| entry.stamp), Some(Stamp(4)));
+    assert_eq!(rt; entries.last().map(|entry| entry.stamp), Some(Stamp(6)));
     Ok(())
 }

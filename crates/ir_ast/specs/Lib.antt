@@ -10,3 +10,4 @@ pub mod Written
 pub mod Programs
 pub mod Places
 pub mod Lexes
+pub mod Arithmetic

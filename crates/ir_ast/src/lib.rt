@@ -19,3 +19,4 @@ pub use program::{
     Block, Function, Goal, Inst, Jump, Named, Op, Param, Program, Term, TypedVal, Val,
 };
 pub use types::{Attr, Place, ResultTy, Ty, Width};
+pub use words::{binary_word, cast_word, cond_word, kind_word, modify_word, type_word, width_word};

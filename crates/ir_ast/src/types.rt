@@ -1,4 +1,7 @@
 //! Types of values, attributes of pointers and places of allocations.
+ghost use Rattle.std.specs.Prelude.{◌≡◌, ◌≤◌};
+ghost use Rattle.ir_ast.specs.Words.{width_bytes, ty_bytes};
+
 use perm_table::RetagKind;
 
 /// The width of an integer, in bits.
@@ -36,4 +39,34 @@ pub struct ResultTy {
 pub enum Place {
     Stack,
     Heap,
+}
+
+impl Width {
+    /// How many bytes an integer of this width takes.
+    pub fn bytes(self) -> u32
+        ensures value { result ≡ width_bytes self }
+        ensures some { 1 ≤ result }
+        ensures few { result ≤ 8 }
+    {
+        match self {
+            Width::W8 => 1,
+            Width::W16 => 2,
+            Width::W32 => 4,
+            Width::W64 => 8,
+        }
+    }
+}
+
+impl Ty {
+    /// How many bytes a value of this type takes.
+    pub fn bytes(self) -> u32
+        ensures value { result ≡ ty_bytes self }
+        ensures some { 1 ≤ result }
+        ensures few { result ≤ 8 }
+    {
+        match self {
+            Ty::Int(width) => width.bytes(),
+            Ty::Ptr => 8,
+        }
+    }
 }

@@ -8,6 +8,7 @@ use crate::program::{Jump, Op};
 use crate::types::{Place, Ty, Width};
 use perm_table::RetagKind;
 
+/// The word of an integer type of this width.
 pub fn width_word(width: Width) -> &'static str
     ensures { result.now ≡ width_word width }
 {
@@ -19,6 +20,7 @@ pub fn width_word(width: Width) -> &'static str
     }
 }
 
+/// The word of a type.
 pub fn type_word(ty: Ty) -> &'static str
     ensures { result.now ≡ type_word ty }
 {
@@ -28,6 +30,7 @@ pub fn type_word(ty: Ty) -> &'static str
     }
 }
 
+/// The word of a result: its type, or `void`.
 pub fn result_word(ty: Option<Ty>) -> &'static str
     ensures { result.now ≡ result_word ty }
 {
@@ -37,6 +40,7 @@ pub fn result_word(ty: Option<Ty>) -> &'static str
     }
 }
 
+/// The word of a kind of retag.
 pub fn kind_word(kind: RetagKind) -> &'static str
     ensures { result.now ≡ kind_word kind }
 {
@@ -48,7 +52,8 @@ pub fn kind_word(kind: RetagKind) -> &'static str
     }
 }
 
-fn binary_word(op: BinaryOp) -> &'static str
+/// The word of a binary operation.
+pub fn binary_word(op: BinaryOp) -> &'static str
     ensures { result.now ≡ binary_word op }
 {
     match op {
@@ -68,6 +73,7 @@ fn binary_word(op: BinaryOp) -> &'static str
     }
 }
 
+/// The word of a condition of a comparison.
 pub fn cond_word(cond: Cond) -> &'static str
     ensures { result.now ≡ cond_word cond }
 {
@@ -85,7 +91,8 @@ pub fn cond_word(cond: Cond) -> &'static str
     }
 }
 
-fn cast_word(op: CastOp) -> &'static str
+/// The word of a cast.
+pub fn cast_word(op: CastOp) -> &'static str
     ensures { result.now ≡ cast_word op }
 {
     match op {
@@ -95,6 +102,7 @@ fn cast_word(op: CastOp) -> &'static str
     }
 }
 
+/// The word of a read-modify-write operation.
 pub fn modify_word(op: ModifyOp) -> &'static str
     ensures { result.now ≡ modify_word op }
 {

@@ -8,7 +8,7 @@ use Rattle.run_record.specs.declared.log.AllocLog.{AllocLog}
 use Rattle.run_record.specs.declared.record.RunRecord.{RunRecord}
 use Rattle.run_record.specs.declared.log.ThreadLog.{ThreadLog}
 use Rattle.run_record.specs.Merge.{stamp_of, thread_entries, alloc_entries, violates, first_violation, first_found, first_violations}
-use Rattle.run_record.proofs.Distinct.{by_stamp_moves}
+use Rattle.history.proofs.Distinct.{by_stamp_moves}
 use Rattle.report.specs.Violation.{IsDescribable}
 use Rattle.report.specs.Report.{IsReportable}
 

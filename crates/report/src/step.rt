@@ -1,33 +1,11 @@
 //! What a step did to an allocation, and through which pointer.
 ghost use Rattle.std.specs.Prelude.{◌≡◌, IfOk, string_bytes};
-ghost use Rattle.ir_ast.specs.Words as sizes;
 ghost use Rattle.report.specs.Violation.{span_text, deed_text, owner_text, tag_text, through_text};
 
 use crate::words::kind_name;
 use bsan_ids::{AllocNo, Prov};
 use history::Request;
-use ir_ast::{Ty, Width};
 use std::alloc::{AllocError, Global};
-
-fn width_bytes(width: Width) -> usize
-    ensures { result ≡ sizes.width_bytes width }
-{
-    match width {
-        Width::W8 => 1,
-        Width::W16 => 2,
-        Width::W32 => 4,
-        Width::W64 => 8,
-    }
-}
-
-fn ty_bytes(ty: Ty) -> usize
-    ensures { result ≡ sizes.ty_bytes ty }
-{
-    match ty {
-        Ty::Int(width) => width_bytes(width),
-        Ty::Ptr => 8,
-    }
-}
 
 fn span(alloc: Global, word: &str, at: u32, len: usize) -> Result<String, AllocError>
     ensures { IfOk result (λ text. string_bytes text ≡ span_text word.now at len) }
@@ -41,11 +19,11 @@ pub fn deed(alloc: Global, request: &Request) -> Result<String, AllocError>
     ensures { IfOk result (λ text. string_bytes text ≡ deed_text request.now) }
 {
     match request {
-        Request::Load { at, ty, .. } => span(alloc, "read", *at, ty_bytes(*ty)),
+        Request::Load { at, ty, .. } => span(alloc, "read", *at, ty.bytes() as usize),
         Request::CopyOut { at, len, .. } => span(alloc, "read", *at, *len as usize),
-        Request::Store { at, ty, .. } => span(alloc, "write", *at, ty_bytes(*ty)),
-        Request::Modify { at, width, .. } => span(alloc, "write", *at, width_bytes(*width)),
-        Request::CmpXchg { at, width, .. } => span(alloc, "write", *at, width_bytes(*width)),
+        Request::Store { at, ty, .. } => span(alloc, "write", *at, ty.bytes() as usize),
+        Request::Modify { at, width, .. } => span(alloc, "write", *at, width.bytes() as usize),
+        Request::CmpXchg { at, width, .. } => span(alloc, "write", *at, width.bytes() as usize),
         Request::CopyIn { at, piece, .. } => span(alloc, "write", *at, piece.len()),
         Request::Retag { at, len, kind, .. } => {
             let bytes = span(alloc, kind_name(*kind), *at, *len as usize)?;

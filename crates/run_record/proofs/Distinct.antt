@@ -1,51 +1,10 @@
--- Where no stamp stands twice, the entries in stamp order are their merge.
-use Rattle.std.proofs.Common.{◌≡◌, ℕ, zero, suc, ◌<◌, ◌≤◌, List, [], ◌∷◌, ◌++◌, map, Bool, true, false, cond, refl, sym, ap, subst, ◌∙◌, arith, nat_eq}
-use Rattle.std.specs.Prelude.{nat_le, find, Option, Some, None, IsPermutation, if◌then◌else◌}
+-- Where no stamp stands twice, none stands twice among the first violations.
+use Rattle.std.proofs.Common.{◌≡◌, ℕ, List, [], ◌∷◌, ◌++◌, map, Bool, true, false, cond, refl, sym, ap, subst, ◌∙◌, nat_eq}
+use Rattle.std.specs.Prelude.{find, Option, Some, None}
 use Rattle.std.specs.List.{IsDistinct, AllByRecursion, flat_map, filter_map, cons_option}
-use Rattle.std.specs.List.Sorted.{IsStrictlyIncreasing}
-use Rattle.std.proofs.lemmas.Bool.Decides.{nat_tests}
-use Rattle.std.proofs.lemmas.Map.Keys.{IsDistinct-IsPermutation}
-use Rattle.std.proofs.lemmas.List.Sorted.{IsPermutation-refl, IsPermutation-cons, IsPermutation-trans, IsPermutation-middle, IsPermutation-map}
 use Rattle.history.specs.declared.entry.Entry.{Entry}
-use native.Mathlib.Numerals.{unary_clauses}
 use Rattle.run_record.specs.declared.log.AllocLog.{AllocLog}
-use Rattle.run_record.specs.Merge.{stamp_of, put_by_stamp, by_stamp, IsMerge, violates, first_violation}
-use Rattle.run_record.proofs.Order.{Rises, by_stamp_rises}
-
-put_moves_by : (e f : Entry) (fs : List Entry) (b : Bool) → IsPermutation (e ∷ fs) (put_by_stamp e fs)
-    → IsPermutation (e ∷ f ∷ fs) (if b then e ∷ f ∷ fs else f ∷ put_by_stamp e fs)
-put_moves_by e f fs true h = IsPermutation-refl (e ∷ f ∷ fs)
-put_moves_by e f fs false h =
-    IsPermutation-trans (e ∷ f ∷ fs) (f ∷ e ∷ fs) (f ∷ put_by_stamp e fs) (IsPermutation-middle (e ∷ []) f fs) (IsPermutation-cons f (e ∷ fs) (put_by_stamp e fs) h)
-
-pub put_moves : (e : Entry) (es : List Entry) → IsPermutation (e ∷ es) (put_by_stamp e es)
-put_moves e [] = IsPermutation-refl (e ∷ [])
-put_moves e (f ∷ fs) = put_moves_by e f fs (nat_le (stamp_of e) (stamp_of f)) (put_moves e fs)
-
-pub by_stamp_moves : (es : List Entry) → IsPermutation es (by_stamp es)
-by_stamp_moves [] = IsPermutation-refl []
-by_stamp_moves (e ∷ es) =
-    IsPermutation-trans (e ∷ es) (e ∷ by_stamp es) (put_by_stamp e (by_stamp es)) (IsPermutation-cons e es (by_stamp es) (by_stamp_moves es)) (put_moves e (by_stamp es))
-
-below_next : (a b : ℕ) → a ≤ b → nat_eq a b ≡ false → a < b
-below_next a b le ne = grind (arith, nat_tests)
-
-pub rises_strictly : (es : List Entry) → Rises es → IsDistinct nat_eq (map stamp_of es) → IsStrictlyIncreasing (map stamp_of es)
-unfolding IsDistinct
-rises_strictly [] h d k lt = absurd (omega arith)
-rises_strictly (e ∷ []) h d k lt = absurd (omega arith)
-rises_strictly (e ∷ f ∷ es) h d zero lt = below_next (stamp_of e) (stamp_of f) h.0.0 d.0.0
-rises_strictly (e ∷ f ∷ es) h d (suc k) lt = simp unary_clauses (simp unary_clauses at (rises_strictly (f ∷ es) h.1 d.1 k (omega arith)))
-
-eq_flips : (a b : ℕ) → nat_eq a b ≡ nat_eq b a
-eq_flips a b = grind (arith, nat_tests)
-
-pub by_stamp_merges : (es : List Entry) → IsDistinct nat_eq (map stamp_of es) → IsMerge es (by_stamp es)
-by_stamp_merges es d = record {
-  same = by_stamp_moves es;
-  rising = rises_strictly (by_stamp es) (by_stamp_rises es)
-      (IsDistinct-IsPermutation nat_eq eq_flips (map stamp_of es) (map stamp_of (by_stamp es)) (IsPermutation-map stamp_of es (by_stamp es) (by_stamp_moves es)) d);
-}
+use Rattle.run_record.specs.Merge.{stamp_of, violates, first_violation}
 
 -- the number is no stamp of these entries
 abbrev pub IsApart : ℕ → List Entry → Type 0

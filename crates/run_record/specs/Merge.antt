@@ -1,30 +1,12 @@
 -- The entries of a run in the order of their stamps, and the first violation on each allocation.
-use Rattle.std.specs.Prelude.{ℕ, nat_le, nat_eq, Bool, true, false, if◌then◌else◌, Option, List, [], ◌∷◌, map, find, IsPermutation}
+use Rattle.std.specs.Prelude.{nat_eq, Bool, true, false, Option, List, map, find}
 use Rattle.std.specs.List.{flat_map, filter_map, list_any, IsDistinct}
-use Rattle.std.specs.List.Sorted.{IsStrictlyIncreasing}
 use Rattle.history.specs.declared.entry.Entry.{Entry}
 use Rattle.history.specs.declared.entry.Verdict.{Verdict}
 use Rattle.history.specs.declared.entry.Verdict.TheVariants.{Clean, Closed, Violated}
 use Rattle.run_record.specs.declared.log.AllocLog.{AllocLog}
 use Rattle.run_record.specs.declared.record.RunRecord.{RunRecord}
-
-abbrev pub stamp_of : Entry → ℕ
-stamp_of entry = entry.stamp.0
-
--- the entries in stamp order: each is put before the first that has no lower stamp
-abbrev pub put_by_stamp : Entry → List Entry → List Entry
-put_by_stamp entry [] = entry ∷ []
-put_by_stamp entry (next ∷ rest) =
-    if nat_le (stamp_of entry) (stamp_of next) then entry ∷ next ∷ rest else next ∷ put_by_stamp entry rest
-
-abbrev pub by_stamp : List Entry → List Entry
-by_stamp [] = []
-by_stamp (entry ∷ entries) = put_by_stamp entry (by_stamp entries)
-
--- the same in the words of order: the merge has these entries, and its stamps rise
-pub record IsMerge (entries merge : List Entry) : Type 0 where
-  pub same : IsPermutation entries merge
-  pub rising : IsStrictlyIncreasing (map stamp_of merge)
+pub use Rattle.history.specs.Merge.{stamp_of, put_by_stamp, by_stamp, IsMerge}
 
 -- the entries of all threads, and those of all allocations
 abbrev pub thread_entries : RunRecord → List Entry

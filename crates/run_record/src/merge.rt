@@ -1,14 +1,14 @@
 //! The entries of a run in stamp order, and the first violation on each allocation.
-ghost use Rattle.std.specs.Prelude.{◌≡◌, ◌++◌, IfOk, OnOk};
+ghost use Rattle.std.specs.Prelude.{◌≡◌, IfOk};
 ghost use Rattle.std.specs.List.{flat_map, filter_map, list_any};
 ghost use Rattle.std.specs.Option.{option_copied};
-ghost use Rattle.run_record.specs.Merge.{IsMerge, HasDistinctStamps, by_stamp, thread_entries, first_found, violates, has_violation, first_violation};
+ghost use Rattle.run_record.specs.Merge.{IsMerge, HasDistinctStamps, thread_entries, first_found, violates, has_violation, first_violation};
 ghost use Rattle.run_record.specs.Merge as merge;
 
 use crate::log::{AllocLog, ThreadLog};
 use crate::record::RunRecord;
 use bsan_ids::NoMemory;
-use history::{Entry, Verdict};
+use history::{Entry, Verdict, append_copies, sort_by_stamp};
 use std::alloc::Global;
 
 fn is_violation(entry: &Entry) -> bool
@@ -36,15 +36,6 @@ impl AllocLog {
     }
 }
 
-fn append_copies(entries: &[Entry], into: &mut Vec<Entry>) -> Result<(), NoMemory>
-    ensures { OnOk result (into.new.items ≡ into.old.items ++ entries.now) }
-{
-    for entry in entries {
-        into.push(entry.copy()?)?;
-    }
-    Ok(())
-}
-
 fn entries_of(alloc: Global, logs: &[ThreadLog]) -> Result<Vec<Entry>, NoMemory>
     ensures { IfOk result (λ v. v.items ≡ flat_map (λ log. log.entries) logs.now) }
 {
@@ -65,13 +56,6 @@ fn violations_of(alloc: Global, logs: &[AllocLog]) -> Result<Vec<Entry>, NoMemor
         }
     }
     Ok(found)
-}
-
-fn sort_by_stamp(entries: &mut Vec<Entry>) -> Result<(), NoMemory>
-    ensures { OnOk result (entries.new.items ≡ by_stamp entries.old.items) }
-{
-    entries.sort_by_key(|entry| entry.stamp.0)?;
-    Ok(())
 }
 
 impl RunRecord {

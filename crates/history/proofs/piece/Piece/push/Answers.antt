@@ -16,17 +16,18 @@ invariant_of-self-2 c =
     let p = c.self.inside in
     let short : length p.bytes.items < 32 = omega (arith, c.requires, ap length c.self.view_is, length-zip p.bytes.items (fragments_of p.runs.items) (sym c.self.invariant.long)) in
     let bytes : c.push_reserved.new.self.items ≡ p.bytes.items ++ c.args.byte ∷ [] = c.push_reserved.ensures.items ∙ ap (λ xs. xs ++ c.args.byte ∷ []) c.reserve.ensures.items in
-    let frags : fragments_of c.push_fragment.new.runs.items ≡ fragments_of p.runs.items ++ c.args.frag ∷ [] = c.push_fragment.ensures ∙ ap (λ rs. fragments_of rs ++ c.args.frag ∷ []) c.reserve-2.ensures.items in
+    let frags : fragments_of c.push_fragment.new.runs.items ≡ fragments_of p.runs.items ++ c.args.frag ∷ [] = c.push_fragment.ensures.fragments ∙ ap (λ rs. fragments_of rs ++ c.args.frag ∷ []) c.reserve-2.ensures.items in
     record {
       short = omega (arith, ap length bytes, length-append p.bytes.items (c.args.byte ∷ []));
       long = omega (arith, ap length bytes, ap length frags, length-append p.bytes.items (c.args.byte ∷ []), length-append (fragments_of p.runs.items) (c.args.frag ∷ []), c.self.invariant.long);
+      small = c.push_fragment.ensures.small;
     }
 
 pub returns-clause-ok : goal.returns-clause-ok
 returns-clause-ok c =
     let p = c.self.inside in
     let bytes : c.push_reserved.new.self.items ≡ p.bytes.items ++ c.args.byte ∷ [] = c.push_reserved.ensures.items ∙ ap (λ xs. xs ++ c.args.byte ∷ []) c.reserve.ensures.items in
-    let frags : fragments_of c.push_fragment.new.runs.items ≡ fragments_of p.runs.items ++ c.args.frag ∷ [] = c.push_fragment.ensures ∙ ap (λ rs. fragments_of rs ++ c.args.frag ∷ []) c.reserve-2.ensures.items in
+    let frags : fragments_of c.push_fragment.new.runs.items ≡ fragments_of p.runs.items ++ c.args.frag ∷ [] = c.push_fragment.ensures.fragments ∙ ap (λ rs. fragments_of rs ++ c.args.frag ∷ []) c.reserve-2.ensures.items in
     ap (λ xs. zip xs (fragments_of c.push_fragment.new.runs.items)) bytes ∙ ap (zip (p.bytes.items ++ c.args.byte ∷ [])) frags
     ∙ zip-push p.bytes.items (fragments_of p.runs.items) c.args.byte c.args.frag (sym c.self.invariant.long)
     ∙ ap (λ xs. xs ++ (c.args.byte, c.args.frag) ∷ []) c.self.view_is

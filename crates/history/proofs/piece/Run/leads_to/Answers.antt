@@ -3,8 +3,8 @@ use Rattle.std.proofs.lemmas.Bool.{eqb-true, and_parts}
 use Rattle.history.proofs.Runs.{run_of-next}
 use Rattle.history.proofs.piece.Run.leads_to.Goals as goal
 
-pub returns-then-next-first : goal.returns-then-next-first
-returns-then-next-first c = λ same.
+pub returns-then-next-first-clause-longer : goal.returns-then-next-first-clause-longer
+returns-then-next-first-clause-longer c = λ same.
     let first = c.in-Some-Some.first in
     let next = c.in-Some-Some.next in
     let len = c.args.self.now.len in

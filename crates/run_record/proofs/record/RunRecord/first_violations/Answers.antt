@@ -1,6 +1,7 @@
 use Rattle.std.proofs.Common.{rules}
 use Rattle.run_record.specs.Merge.{first_found}
-use Rattle.run_record.proofs.Distinct.{by_stamp_merges, firsts_distinct}
+use Rattle.history.proofs.Distinct.{by_stamp_merges}
+use Rattle.run_record.proofs.Distinct.{firsts_distinct}
 use Rattle.run_record.proofs.record.RunRecord.first_violations.Goals as goal
 
 pub returns-clause-order : goal.returns-clause-order

@@ -1,6 +1,6 @@
 use Rattle.std.proofs.Common.{rules}
 use Rattle.run_record.specs.Merge.{thread_entries}
-use Rattle.run_record.proofs.Distinct.{by_stamp_merges}
+use Rattle.history.proofs.Distinct.{by_stamp_merges}
 use Rattle.run_record.proofs.record.RunRecord.merged.Goals as goal
 
 pub returns-clause-order : goal.returns-clause-order

@@ -6,7 +6,7 @@ use Rattle.std.proofs.lemmas.Grind.{common_steps}
 use Rattle.std.proofs.lemmas.Bool.Decides.{nat_tests}
 use Rattle.std.proofs.lemmas.Bool.{cases_lt}
 use Rattle.history.specs.declared.entry.Entry.{Entry}
-use Rattle.run_record.specs.Merge.{stamp_of, put_by_stamp, by_stamp}
+use Rattle.history.specs.Merge.{stamp_of, put_by_stamp, by_stamp}
 
 -- no stamp is below this number
 abbrev pub AllFrom : ℕ → List Entry → Type 0

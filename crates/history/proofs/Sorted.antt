@@ -5,8 +5,8 @@ use Rattle.std.specs.Ordering.{is_lt, nat_cmp}
 use Rattle.std.specs.List.Sorted.{IsNonDecreasingBy, IsStableByKey, ties}
 use Rattle.std.proofs.lemmas.Bool.Decides.{nat_tests}
 use Rattle.history.specs.declared.entry.Entry.{Entry}
-use Rattle.run_record.specs.Merge.{stamp_of, by_stamp}
-use Rattle.run_record.proofs.Order.{with_stamp, unique, rises_from, by_stamp_rises, with_stamp-by_stamp}
+use Rattle.history.specs.Merge.{stamp_of, by_stamp}
+use Rattle.history.proofs.Order.{with_stamp, unique, rises_from, by_stamp_rises, with_stamp-by_stamp}
 
 abbrev pub is_below : Entry → Entry → Bool
 is_below x y = is_lt (nat_cmp (stamp_of x) (stamp_of y))
