@@ -1,0 +1,5 @@
+pub mod LongerHistory
+pub mod TagsBelow
+pub mod Makes
+pub mod Rooms
+mod ByteCopies

@@ -1,0 +1,50 @@
+use Rattle.std.proofs.Common.{◌≡◌, ◌∷◌, ◌++◌, ◌<◌, [], All, true, false, Some, None, ap, sym, ◌∙◌, subst, refl, List, Option}
+use Rattle.history.specs.declared.entry.Entry.{Entry}
+use Rattle.history.specs.declared.entry.Request.{Request}
+use Rattle.history.specs.declared.entry.Reply.{Reply}
+use Rattle.history.specs.Objects.{Object, answer, unmade}
+use Rattle.history.specs.Histories.{replay, is_make}
+use Rattle.alloc_state.specs.Log.{Log, has_make}
+use Rattle.alloc_state.specs.Prepared.{Prepared, AreBelow}
+use Rattle.alloc_state.proofs.LongerHistory.{IsHistory-push, replay-push}
+use Rattle.alloc_state.proofs.TagsBelow.{AreBelow-replay}
+use Rattle.alloc_state.proofs.Makes.{none_made}
+use Rattle.alloc_state.proofs.alloc_state.AllocState.commit.Goals as goal
+
+pub run-ran-requires-clause-newest : goal.run-ran-requires-clause-newest
+run-ran-requires-clause-newest c =
+    let number = c.self.inside.number.0 in
+    let entries = c.self.inside.entries.items in
+    let stamp = c.args.stamp in
+    let later = subst (λ (l : Log). All (λ (e : Entry). e.stamp.0 < stamp.0) l.entries) (sym c.self.view_is) c.requires.later in
+    subst (λ (o : Object). AreBelow stamp.0 o) c.self.invariant.state (AreBelow-replay (unmade number) entries stamp.0 later tt)
+
+pub invariant_of-self : goal.invariant_of-self
+invariant_of-self c =
+    let number = c.self.inside.number.0 in
+    let entries = c.self.inside.entries.items in
+    let request = c.args.request in
+    let stamp = c.args.stamp in
+    let entry : Entry = record { thread = c.args.thread; stamp = stamp; site = c.args.site; alloc = Some c.self.inside.number; request = request; reply = c.run-ran.result.reply } in
+    let state = c.self.invariant.state in
+    let later = subst (λ (l : Log). All (λ (e : Entry). e.stamp.0 < stamp.0) l.entries) (sym c.self.view_is) c.requires.later in
+    let once = subst (λ (l : Log). is_make request ≡ true → has_make l.entries ≡ false) (sym c.self.view_is) c.requires.once in
+    let reply = c.run-ran.ensures.reply ∙ ap (λ (o : Object). (answer o request stamp).reply) (sym state) in
+    record {
+      history = rw c.push_reserved.ensures.items (IsHistory-push number entries entry c.self.invariant.history later refl c.requires.fitting (λ h. none_made entries (once h)) reply);
+      state = ap (replay (unmade number)) c.push_reserved.ensures.items ∙ replay-push (unmade number) entries entry ∙ ap (λ (o : Object). (answer o request stamp).object) state ∙ sym (ap (λ (p : Prepared). p.object) c.run-ran.ensures.state);
+      room = rw c.run-ran.ensures.state tt;
+    }
+
+pub returns-clause-appended : goal.returns-clause-appended
+returns-clause-appended c =
+    let request = c.args.request in
+    let stamp = c.args.stamp in
+    let items = c.self.inside.entries.items in
+    let entry : Request → Reply → Entry = λ q r. record { thread = c.args.thread; stamp = stamp; site = c.args.site; alloc = Some c.self.inside.number; request = q; reply = r } in
+    let log : List Entry → Option Request → Log = λ es r. record { number = c.self.inside.number; entries = es; ready = r } in
+    ap (λ (es : List Entry). log es c.run-ran.new.self.ready) c.push_reserved.ensures.items
+    ∙ ap (λ (p : Prepared). log (items ++ entry request c.run-ran.result.reply ∷ []) p.ready) c.run-ran.ensures.state
+    ∙ ap (λ (q : Request). log (items ++ entry q c.run-ran.result.reply ∷ []) None) (sym c.run-ran.ensures.request)
+    ∙ ap (λ (r : Reply). log (items ++ entry c.run-ran.result.request r ∷ []) None) (sym c.run-ran.ensures.again)
+    ∙ ap (λ (l : Log). record { number = l.number; entries = l.entries ++ entry c.run-ran.result.request c.run-ran.result.again ∷ []; ready = None }) c.self.view_is

@@ -1,0 +1,5 @@
+pub mod Prepared
+pub mod Kits
+pub mod Log
+pub mod ShortReplies
+pub mod MadeValues
