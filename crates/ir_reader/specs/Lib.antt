@@ -1,0 +1,13 @@
+pub mod View
+pub mod Tables
+pub mod Keys
+pub mod Wants
+pub mod Parts
+pub mod Ops
+pub mod Insts
+pub mod Blocks
+pub mod Behind
+pub mod Laws
+pub mod Readings
+pub mod Told
+pub mod FaultTexts

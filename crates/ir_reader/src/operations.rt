@@ -1,0 +1,394 @@
+//! Operations, behind the words that they begin with.
+ghost use Rattle.std.specs.Prelude.{◌≡◌};
+ghost use Rattle.ir_ast.specs.declared.types.Ty.TheVariants.{Int};
+ghost use Rattle.ir_ast.specs.declared.types.Width.TheVariants.{W64};
+ghost use Rattle.ir_reader.specs.View.{lexes, Gives};
+ghost use Rattle.phrase.specs.Reading.{one};
+ghost use Rattle.ir_reader.specs.Keys.{definers, plains, jumps};
+ghost use Rattle.ir_reader.specs.Tables.{types};
+ghost use Rattle.ir_reader.specs.Wants.{want_among, want_placed};
+ghost use Rattle.ir_reader.specs.Ops.{next_register_at, next_value_at, two_at, next_two_at, callee_at, result_at, placed_result_at, const_at, make_at, gep_at, load_at, store_at, next_size_at, retag_at, binary_at, compare_at, select_at, to_at, cast_at, ptr_to_int_at, input_at, modify_at, cmp_xchg_at, copy_at, free_at, print_at, call_at, host_at, spawn_at, join_at, tail_at, defined_at};
+
+use crate::keywords::Keyword;
+use crate::leaves::{
+    amount, cond, definer, global, kind, local, modifier, placed_result, placed_ty, placed_width,
+    result, size, ty, val, width, word,
+};
+use crate::marks::{Mark, take_mark};
+use crate::stop::{Read, Stop};
+use crate::values::args;
+use bsan_ids::ListOf;
+use ir_ast::{BinaryOp, CastOp, Named, Op, Place, Ty, TypedVal, Val, Width};
+use ir_text::Token;
+use std::alloc::Global;
+
+#[tactic(auto, unfolding(crate::specs::Ops::next_register_at))]
+fn next_local<'a>(alloc: Global, text: &[u8], tokens: &'a [Token]) -> Read<'a, Named>
+    ensures { Gives text.now (λ x. (x.0, lexes text.now x.1.now)) result (next_register_at (lexes text.now tokens.now)) }
+{
+    let rest = take_mark(Mark::Comma, text, tokens)?;
+    local(alloc, text, rest)
+}
+
+#[tactic(auto, unfolding(crate::specs::Ops::next_value_at))]
+fn next_val<'a>(alloc: Global, ty: Ty, text: &[u8], tokens: &'a [Token]) -> Read<'a, Val>
+    ensures { Gives text.now (λ x. (x.0, lexes text.now x.1.now)) result (next_value_at ty (lexes text.now tokens.now)) }
+{
+    let rest = take_mark(Mark::Comma, text, tokens)?;
+    val(alloc, ty, text, rest)
+}
+
+#[tactic(auto, unfolding(crate::specs::Ops::next_size_at))]
+fn next_size<'a>(text: &[u8], tokens: &'a [Token]) -> Read<'a, u32>
+    ensures { Gives text.now (λ x. (x.0, lexes text.now x.1.now)) result (next_size_at (lexes text.now tokens.now)) }
+{
+    let rest = take_mark(Mark::Comma, text, tokens)?;
+    size(text, rest)
+}
+
+/// Two values of a type.
+#[tactic(auto, unfolding(crate::specs::Ops::two_at))]
+fn two<'a>(alloc: Global, ty: Ty, text: &[u8], tokens: &'a [Token]) -> Read<'a, (Val, Val)>
+    ensures { Gives text.now (λ x. (x.0, lexes text.now x.1.now)) result (two_at ty (lexes text.now tokens.now)) }
+{
+    let (first, rest) = val(alloc, ty, text, tokens)?;
+    let (second, rest) = next_val(alloc, ty, text, rest)?;
+    Ok(((first, second), rest))
+}
+
+#[tactic(auto, unfolding(crate::specs::Ops::next_two_at))]
+fn next_two<'a>(alloc: Global, ty: Ty, text: &[u8], tokens: &'a [Token]) -> Read<'a, (Val, Val)>
+    ensures { Gives text.now (λ x. (x.0, lexes text.now x.1.now)) result (next_two_at ty (lexes text.now tokens.now)) }
+{
+    let rest = take_mark(Mark::Comma, text, tokens)?;
+    two(alloc, ty, text, rest)
+}
+
+/// What is called, and its arguments.
+#[tactic(auto, unfolding(crate::specs::Ops::callee_at))]
+fn callee<'a>(
+    alloc: Global,
+    text: &[u8],
+    tokens: &'a [Token],
+) -> Read<'a, (Named, ListOf<TypedVal>)>
+    ensures { Gives text.now (λ x. (x.0, lexes text.now x.1.now)) result (callee_at (lexes text.now tokens.now)) }
+{
+    let (name, rest) = global(alloc, text, tokens)?;
+    let (args, rest) = args(alloc, text, rest)?;
+    Ok(((name, args), rest))
+}
+
+/// The type of a result, which may be `void` where it is not to be typed.
+#[tactic(auto, unfolding(crate::specs::Ops::result_at))]
+fn result_type<'a>(typed: bool, text: &[u8], tokens: &'a [Token]) -> Read<'a, Option<Ty>>
+    ensures { Gives text.now (λ x. (x.0, lexes text.now x.1.now)) result (result_at typed (lexes text.now tokens.now)) }
+{
+    if typed {
+        let (ty, rest) = ty(text, tokens)?;
+        Ok((Some(ty), rest))
+    } else {
+        result(text, tokens)
+    }
+}
+
+#[tactic(auto, unfolding(crate::specs::Ops::placed_result_at))]
+fn placed_result_type<'a>(
+    typed: bool,
+    text: &[u8],
+    tokens: &'a [Token],
+) -> Read<'a, (Option<Ty>, u32)>
+    ensures { Gives text.now (λ x. (x.0, lexes text.now x.1.now)) result (placed_result_at typed (lexes text.now tokens.now)) }
+{
+    if typed {
+        let ((ty, at), rest) = placed_ty(text, tokens)?;
+        Ok(((Some(ty), at), rest))
+    } else {
+        placed_result(text, tokens)
+    }
+}
+
+#[tactic(auto, unfolding(crate::specs::Ops::const_at))]
+fn constant<'a>(text: &[u8], tokens: &'a [Token]) -> Read<'a, Op>
+    ensures { Gives text.now (λ x. (x.0, lexes text.now x.1.now)) result (const_at (lexes text.now tokens.now)) }
+{
+    let (width, rest) = width(text, tokens)?;
+    let (value, rest) = amount(width, text, rest)?;
+    Ok((Op::Const { width, value }, rest))
+}
+
+#[tactic(auto, unfolding(crate::specs::Ops::make_at))]
+fn make<'a>(alloc: Global, place: Place, text: &[u8], tokens: &'a [Token]) -> Read<'a, Op>
+    ensures { Gives text.now (λ x. (x.0, lexes text.now x.1.now)) result (make_at place (lexes text.now tokens.now)) }
+{
+    let (size, rest) = val(alloc, Ty::Int(Width::W64), text, tokens)?;
+    Ok((Op::Make { place, size }, rest))
+}
+
+#[tactic(auto, unfolding(crate::specs::Ops::gep_at))]
+fn gep<'a>(alloc: Global, text: &[u8], tokens: &'a [Token]) -> Read<'a, Op>
+    ensures { Gives text.now (λ x. (x.0, lexes text.now x.1.now)) result (gep_at (lexes text.now tokens.now)) }
+{
+    let (ptr, rest) = local(alloc, text, tokens)?;
+    let (add, rest) = next_val(alloc, Ty::Int(Width::W64), text, rest)?;
+    Ok((Op::Gep { ptr, add }, rest))
+}
+
+#[tactic(auto, unfolding(crate::specs::Ops::load_at))]
+fn load<'a>(alloc: Global, text: &[u8], tokens: &'a [Token]) -> Read<'a, Op>
+    ensures { Gives text.now (λ x. (x.0, lexes text.now x.1.now)) result (load_at (lexes text.now tokens.now)) }
+{
+    let (ty, rest) = ty(text, tokens)?;
+    let (ptr, rest) = next_local(alloc, text, rest)?;
+    Ok((Op::Load { ty, ptr }, rest))
+}
+
+#[tactic(auto, unfolding(crate::specs::Ops::store_at))]
+fn store<'a>(alloc: Global, text: &[u8], tokens: &'a [Token]) -> Read<'a, Op>
+    ensures { Gives text.now (λ x. (x.0, lexes text.now x.1.now)) result (store_at (lexes text.now tokens.now)) }
+{
+    let (ty, rest) = ty(text, tokens)?;
+    let (val, rest) = val(alloc, ty, text, rest)?;
+    let (ptr, rest) = next_local(alloc, text, rest)?;
+    Ok((Op::Store { ty, val, ptr }, rest))
+}
+
+#[tactic(auto, unfolding(crate::specs::Ops::retag_at))]
+fn retag<'a>(alloc: Global, text: &[u8], tokens: &'a [Token]) -> Read<'a, Op>
+    ensures { Gives text.now (λ x. (x.0, lexes text.now x.1.now)) result (retag_at (lexes text.now tokens.now)) }
+{
+    let (kind, rest) = kind(text, tokens)?;
+    let (ptr, rest) = local(alloc, text, rest)?;
+    let (size, rest) = next_size(text, rest)?;
+    Ok((Op::Retag { kind, ptr, size }, rest))
+}
+
+#[tactic(auto, unfolding(crate::specs::Ops::binary_at))]
+fn binary<'a>(alloc: Global, op: BinaryOp, text: &[u8], tokens: &'a [Token]) -> Read<'a, Op>
+    ensures { Gives text.now (λ x. (x.0, lexes text.now x.1.now)) result (binary_at op (lexes text.now tokens.now)) }
+{
+    let (width, rest) = width(text, tokens)?;
+    let ((a, b), rest) = two(alloc, Ty::Int(width), text, rest)?;
+    Ok((Op::Binary { op, width, a, b }, rest))
+}
+
+#[tactic(auto, unfolding(crate::specs::Ops::compare_at))]
+fn compare<'a>(alloc: Global, text: &[u8], tokens: &'a [Token]) -> Read<'a, Op>
+    ensures { Gives text.now (λ x. (x.0, lexes text.now x.1.now)) result (compare_at (lexes text.now tokens.now)) }
+{
+    let (cond, rest) = cond(text, tokens)?;
+    let (ty, rest) = ty(text, rest)?;
+    let ((a, b), rest) = two(alloc, ty, text, rest)?;
+    Ok((Op::Compare { cond, ty, a, b }, rest))
+}
+
+#[tactic(auto, unfolding(crate::specs::Ops::select_at))]
+fn select<'a>(alloc: Global, text: &[u8], tokens: &'a [Token]) -> Read<'a, Op>
+    ensures { Gives text.now (λ x. (x.0, lexes text.now x.1.now)) result (select_at (lexes text.now tokens.now)) }
+{
+    let (ty, rest) = ty(text, tokens)?;
+    let (cond, rest) = val(alloc, Ty::Int(Width::W8), text, rest)?;
+    let ((a, b), rest) = next_two(alloc, ty, text, rest)?;
+    Ok((Op::Select { ty, cond, a, b }, rest))
+}
+
+/// `to` and a width.
+#[tactic(auto, unfolding(crate::specs::Ops::to_at))]
+fn to<'a>(text: &[u8], tokens: &'a [Token]) -> Read<'a, (Width, u32)>
+    ensures { Gives text.now (λ x. (x.0, lexes text.now x.1.now)) result (to_at (lexes text.now tokens.now)) }
+{
+    let rest = word(b"to".as_slice(), text, tokens)?;
+    placed_width(text, rest)
+}
+
+#[tactic(auto, unfolding(crate::specs::Ops::cast_at))]
+fn cast<'a>(alloc: Global, op: CastOp, text: &[u8], tokens: &'a [Token]) -> Read<'a, Op>
+    ensures { Gives text.now (λ x. (x.0, lexes text.now x.1.now)) result (cast_at op (lexes text.now tokens.now)) }
+{
+    let (from, rest) = width(text, tokens)?;
+    let (val, rest) = val(alloc, Ty::Int(from), text, rest)?;
+    let ((to, to_at), rest) = to(text, rest)?;
+    Ok((
+        Op::Cast {
+            op,
+            from,
+            to,
+            val,
+            to_at,
+        },
+        rest,
+    ))
+}
+
+#[tactic(auto, unfolding(crate::specs::Ops::ptr_to_int_at))]
+fn ptr_to_int<'a>(alloc: Global, text: &[u8], tokens: &'a [Token]) -> Read<'a, Op>
+    ensures { Gives text.now (λ x. (x.0, lexes text.now x.1.now)) result (ptr_to_int_at (lexes text.now tokens.now)) }
+{
+    let (ptr, rest) = local(alloc, text, tokens)?;
+    Ok((Op::PtrToInt { ptr }, rest))
+}
+
+#[tactic(auto, unfolding(crate::specs::Ops::input_at))]
+fn input<'a>(alloc: Global, text: &[u8], tokens: &'a [Token]) -> Read<'a, Op>
+    ensures { Gives text.now (λ x. (x.0, lexes text.now x.1.now)) result (input_at (lexes text.now tokens.now)) }
+{
+    let (index, rest) = val(alloc, Ty::Int(Width::W64), text, tokens)?;
+    Ok((Op::Input { index }, rest))
+}
+
+#[tactic(auto, unfolding(crate::specs::Ops::modify_at))]
+fn modify<'a>(alloc: Global, text: &[u8], tokens: &'a [Token]) -> Read<'a, Op>
+    ensures { Gives text.now (λ x. (x.0, lexes text.now x.1.now)) result (modify_at (lexes text.now tokens.now)) }
+{
+    let (op, rest) = modifier(text, tokens)?;
+    let (width, rest) = width(text, rest)?;
+    let (ptr, rest) = local(alloc, text, rest)?;
+    let (val, rest) = next_val(alloc, Ty::Int(width), text, rest)?;
+    Ok((
+        Op::Modify {
+            op,
+            width,
+            ptr,
+            val,
+        },
+        rest,
+    ))
+}
+
+#[tactic(auto, unfolding(crate::specs::Ops::cmp_xchg_at))]
+fn cmp_xchg<'a>(alloc: Global, text: &[u8], tokens: &'a [Token]) -> Read<'a, Op>
+    ensures { Gives text.now (λ x. (x.0, lexes text.now x.1.now)) result (cmp_xchg_at (lexes text.now tokens.now)) }
+{
+    let (width, rest) = width(text, tokens)?;
+    let (ptr, rest) = local(alloc, text, rest)?;
+    let ((expected, val), rest) = next_two(alloc, Ty::Int(width), text, rest)?;
+    Ok((
+        Op::CmpXchg {
+            width,
+            ptr,
+            expected,
+            val,
+        },
+        rest,
+    ))
+}
+
+#[tactic(auto, unfolding(crate::specs::Ops::copy_at))]
+fn copy<'a>(alloc: Global, text: &[u8], tokens: &'a [Token]) -> Read<'a, Op>
+    ensures { Gives text.now (λ x. (x.0, lexes text.now x.1.now)) result (copy_at (lexes text.now tokens.now)) }
+{
+    let (to, rest) = local(alloc, text, tokens)?;
+    let (from, rest) = next_local(alloc, text, rest)?;
+    let (len, rest) = next_val(alloc, Ty::Int(Width::W64), text, rest)?;
+    Ok((Op::Copy { to, from, len }, rest))
+}
+
+#[tactic(auto, unfolding(crate::specs::Ops::free_at))]
+fn free<'a>(alloc: Global, text: &[u8], tokens: &'a [Token]) -> Read<'a, Op>
+    ensures { Gives text.now (λ x. (x.0, lexes text.now x.1.now)) result (free_at (lexes text.now tokens.now)) }
+{
+    let (ptr, rest) = local(alloc, text, tokens)?;
+    Ok((Op::Free { ptr }, rest))
+}
+
+#[tactic(auto, unfolding(crate::specs::Ops::print_at))]
+fn print<'a>(alloc: Global, text: &[u8], tokens: &'a [Token]) -> Read<'a, Op>
+    ensures { Gives text.now (λ x. (x.0, lexes text.now x.1.now)) result (print_at (lexes text.now tokens.now)) }
+{
+    let (width, rest) = width(text, tokens)?;
+    let (val, rest) = val(alloc, Ty::Int(width), text, rest)?;
+    Ok((Op::Print { width, val }, rest))
+}
+
+#[tactic(auto, unfolding(crate::specs::Ops::call_at))]
+fn call<'a>(alloc: Global, typed: bool, text: &[u8], tokens: &'a [Token]) -> Read<'a, Op>
+    ensures { Gives text.now (λ x. (x.0, lexes text.now x.1.now)) result (call_at typed (lexes text.now tokens.now)) }
+{
+    let (result, rest) = result_type(typed, text, tokens)?;
+    let ((function, args), rest) = callee(alloc, text, rest)?;
+    Ok((
+        Op::Call {
+            result,
+            function,
+            args,
+        },
+        rest,
+    ))
+}
+
+#[tactic(auto, unfolding(crate::specs::Ops::host_at))]
+fn host<'a>(alloc: Global, text: &[u8], tokens: &'a [Token]) -> Read<'a, Op>
+    ensures { Gives text.now (λ x. (x.0, lexes text.now x.1.now)) result (host_at (lexes text.now tokens.now)) }
+{
+    let (result, rest) = ty(text, tokens)?;
+    let ((host, args), rest) = callee(alloc, text, rest)?;
+    Ok((Op::Host { result, host, args }, rest))
+}
+
+#[tactic(auto, unfolding(crate::specs::Ops::spawn_at))]
+fn spawn<'a>(alloc: Global, text: &[u8], tokens: &'a [Token]) -> Read<'a, Op>
+    ensures { Gives text.now (λ x. (x.0, lexes text.now x.1.now)) result (spawn_at (lexes text.now tokens.now)) }
+{
+    let ((function, args), rest) = callee(alloc, text, tokens)?;
+    Ok((Op::Spawn { function, args }, rest))
+}
+
+#[tactic(auto, unfolding(crate::specs::Ops::join_at))]
+fn join<'a>(alloc: Global, typed: bool, text: &[u8], tokens: &'a [Token]) -> Read<'a, Op>
+    ensures { Gives text.now (λ x. (x.0, lexes text.now x.1.now)) result (join_at typed (lexes text.now tokens.now)) }
+{
+    let ((result, ty_at), rest) = placed_result_type(typed, text, tokens)?;
+    let (handle, rest) = local(alloc, text, rest)?;
+    Ok((
+        Op::Join {
+            result,
+            ty_at,
+            handle,
+        },
+        rest,
+    ))
+}
+
+/// The rest of an operation. The result of a call or a join has a type where it is to be typed.
+pub fn tail<'a>(
+    alloc: Global,
+    typed: bool,
+    keyword: Keyword,
+    text: &[u8],
+    tokens: &'a [Token],
+) -> Read<'a, Op>
+    ensures { Gives text.now (λ x. (x.0, lexes text.now x.1.now)) result (tail_at typed keyword (lexes text.now tokens.now)) }
+{
+    match keyword {
+        Keyword::Const => constant(text, tokens),
+        Keyword::Null => Ok((Op::Null, tokens)),
+        Keyword::Make(place) => make(alloc, place, text, tokens),
+        Keyword::Gep => gep(alloc, text, tokens),
+        Keyword::Load => load(alloc, text, tokens),
+        Keyword::Store => store(alloc, text, tokens),
+        Keyword::Retag => retag(alloc, text, tokens),
+        Keyword::Binary(op) => binary(alloc, op, text, tokens),
+        Keyword::Compare => compare(alloc, text, tokens),
+        Keyword::Select => select(alloc, text, tokens),
+        Keyword::Cast(op) => cast(alloc, op, text, tokens),
+        Keyword::PtrToInt => ptr_to_int(alloc, text, tokens),
+        Keyword::Input => input(alloc, text, tokens),
+        Keyword::Modify => modify(alloc, text, tokens),
+        Keyword::CmpXchg => cmp_xchg(alloc, text, tokens),
+        Keyword::Copy => copy(alloc, text, tokens),
+        Keyword::Free => free(alloc, text, tokens),
+        Keyword::Print => print(alloc, text, tokens),
+        Keyword::Call => call(alloc, typed, text, tokens),
+        Keyword::Host => host(alloc, text, tokens),
+        Keyword::Spawn => spawn(alloc, text, tokens),
+        Keyword::Join => join(alloc, typed, text, tokens),
+    }
+}
+
+/// An operation behind a register and `=`.
+#[tactic(auto, unfolding(crate::specs::Ops::defined_at))]
+pub fn defined<'a>(alloc: Global, text: &[u8], tokens: &'a [Token]) -> Read<'a, Op>
+    ensures { Gives text.now (λ x. (x.0, lexes text.now x.1.now)) result (defined_at (lexes text.now tokens.now)) }
+{
+    let (keyword, rest) = definer(text, tokens)?;
+    tail(alloc, true, keyword, text, rest)
+}

@@ -1,0 +1,188 @@
+//! Functions and programs.
+ghost use Rattle.std.specs.Prelude.{◌≡◌, ◌+◌, ◌<◌, ◌≤◌, length, codes, IfOk};
+ghost use Rattle.std.specs.List.{sum_by};
+ghost use Rattle.phrase.specs.Reading.{one};
+ghost use Rattle.phrase.specs.Whole.{all_of};
+ghost use Rattle.ir_ast.specs.Lines.{most_functions, most_registers, block_instructions};
+ghost use Rattle.std.specs.Prelude.{◌==◌};
+ghost use Rattle.std.specs.Str.Parse.{digits_value};
+ghost use Rattle.ir_reader.specs.View.{lexes, Gives, begins, with_front};
+ghost use Rattle.ir_reader.specs.Told.{GivesAll};
+ghost use Rattle.ir_reader.specs.Wants.{want_if, begins_if, is_word};
+ghost use Rattle.ir_reader.specs.Blocks.{is_one, func_at, function_at, more_functions_at, functions_at, program_at};
+
+use crate::blocks::{Before, closed_blocks};
+use crate::leaves::{bytes_of, global, word};
+use crate::numbers::number;
+use crate::params::{arrow_result, function_params};
+use crate::stop::{Read, Stop};
+use bsan_ids::ListOf;
+use ir_ast::{Function, Param};
+use ir_text::{Token, TokenKind};
+use phrase::Cause;
+use std::alloc::Global;
+
+/// The most functions of a program.
+const MOST_FUNCTIONS: u32 = 256;
+
+/// Whether `func` is next.
+fn begins_func(text: &[u8], tokens: &[Token]) -> bool
+    ensures { result ≡ begins (begins_if (is_word (codes "func"))) (lexes text.now tokens.now) }
+{
+    let [first, ..] = tokens else {
+        return false;
+    };
+    match first.kind {
+        TokenKind::Word => bytes_of(text, first) == b"func".as_slice(),
+        _ => false,
+    }
+}
+
+/// Takes the `func` that begins a function, where so many functions stand before it.
+#[tactic(auto, unfolding(crate::specs::Blocks::func_at))]
+fn func<'a>(functions: u32, text: &[u8], tokens: &'a [Token]) -> Result<&'a [Token], Stop<'a>>
+    ensures taken { Gives text.now (λ rest. (tt, lexes text.now rest.now)) result (func_at functions (lexes text.now tokens.now)) }
+    ensures within { IfOk result (λ _. functions < most_functions) }
+{
+    let [first, rest @ ..] = tokens else {
+        return Err(Stop::At(Cause::Unexpected, tokens));
+    };
+    match first.kind {
+        TokenKind::Word if bytes_of(text, first) == b"func".as_slice() => {
+            if functions < MOST_FUNCTIONS {
+                Ok(rest)
+            } else {
+                Err(Stop::At(Cause::TooLarge, tokens))
+            }
+        }
+        _ => Err(Stop::At(Cause::Unexpected, tokens)),
+    }
+}
+
+/// How many registers the parameters define.
+fn registers_of(params: &ListOf<Param>) -> u32
+    requires { length params.now ≤ most_registers }
+    ensures { result ≡ length params.now }
+{
+    params.len() as u32
+}
+
+/// A function, where so many functions of the program and instructions stand before it, and how many instructions
+/// stand before the place behind it.
+#[tactic(auto, unfolding(crate::specs::Blocks::function_at))]
+fn function<'a>(
+    alloc: Global,
+    functions: u32,
+    instructions: u32,
+    text: &[u8],
+    tokens: &'a [Token],
+) -> Read<'a, (Function, u32)>
+    ensures read { Gives text.now (λ x. (x.0.0, lexes text.now x.1.now)) result (function_at (functions, instructions) (lexes text.now tokens.now)) }
+    ensures behind { IfOk result (λ x. x.0.1 ≡ instructions + sum_by block_instructions x.0.0.blocks) }
+    ensures within { IfOk result (λ _. functions < most_functions) }
+{
+    let rest = func(functions, text, tokens)?;
+    let (name, rest) = global(alloc, text, rest)?;
+    let (params, rest) = function_params(alloc, text, rest)?;
+    let (result, rest) = arrow_result(text, rest)?;
+    let registers = registers_of(&params);
+    let before = Before {
+        instructions,
+        registers,
+    };
+    let ((blocks, behind), rest) = closed_blocks(alloc, before, text, rest)?;
+    Ok((
+        (
+            Function {
+                name,
+                params,
+                result,
+                blocks,
+            },
+            behind,
+        ),
+        rest,
+    ))
+}
+
+/// Appends the functions that follow.
+fn more_functions<'a>(
+    alloc: Global,
+    functions: u32,
+    instructions: u32,
+    front: ListOf<Function>,
+    text: &[u8],
+    tokens: &'a [Token],
+) -> Read<'a, ListOf<Function>>
+    ensures { Gives text.now (λ x. (x.0, lexes text.now x.1.now)) result (with_front front (more_functions_at (functions, instructions) (lexes text.now tokens.now))) }
+{
+    let mut found = front;
+    let mut count = functions;
+    let mut before = instructions;
+    let mut rest = tokens;
+    while begins_func(text, rest) {
+        let ((next, behind), after) = function(alloc, count, before, text, rest)?;
+        found.push(next)?;
+        count += 1;
+        before = behind;
+        rest = after;
+    }
+    Ok((found, rest))
+}
+
+fn functions<'a>(alloc: Global, text: &[u8], tokens: &'a [Token]) -> Read<'a, ListOf<Function>>
+    ensures { Gives text.now (λ x. (x.0, lexes text.now x.1.now)) result (functions_at (lexes text.now tokens.now)) }
+{
+    let ((first, behind), rest) = function(alloc, 0, 0, text, tokens)?;
+    let mut front = ListOf::new(alloc);
+    front.push(first)?;
+    more_functions(alloc, 1, behind, front, text, rest)
+}
+
+/// Takes the number 1.
+fn one<'a>(text: &[u8], tokens: &'a [Token]) -> Result<&'a [Token], Stop<'a>>
+    ensures { Gives text.now (λ rest. (tt, lexes text.now rest.now)) result (one (want_if is_one) (lexes text.now tokens.now)) }
+{
+    let [first, rest @ ..] = tokens else {
+        return Err(Stop::At(Cause::Unexpected, tokens));
+    };
+    match first.kind {
+        TokenKind::Number if is_one(bytes_of(text, first)) => Ok(rest),
+        _ => Err(Stop::At(Cause::Unexpected, tokens)),
+    }
+}
+
+/// Whether the digits write the number 1.
+fn is_one(digits: &[u8]) -> bool
+    ensures { result ≡ digits_value 10 digits.now == 1 }
+{
+    match number(digits, 1) {
+        Some(value) => value == 1,
+        None => false,
+    }
+}
+
+/// The functions of a program, behind `bir 1`.
+#[tactic(auto, unfolding(crate::specs::Blocks::program_at))]
+fn program<'a>(alloc: Global, text: &[u8], tokens: &'a [Token]) -> Read<'a, ListOf<Function>>
+    ensures { Gives text.now (λ x. (x.0, lexes text.now x.1.now)) result (program_at (lexes text.now tokens.now)) }
+{
+    let rest = word(b"bir".as_slice(), text, tokens)?;
+    let rest = one(text, rest)?;
+    functions(alloc, text, rest)
+}
+
+/// The functions of the program that all of the tokens are.
+pub fn whole<'a>(
+    alloc: Global,
+    text: &[u8],
+    tokens: &'a [Token],
+) -> Result<ListOf<Function>, Stop<'a>>
+    ensures { GivesAll text.now result (all_of program_at (lexes text.now tokens.now)) }
+{
+    let (functions, rest) = program(alloc, text, tokens)?;
+    match rest {
+        [] => Ok(functions),
+        [_, ..] => Err(Stop::At(Cause::Unexpected, rest)),
+    }
+}
