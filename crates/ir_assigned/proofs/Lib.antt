@@ -1,0 +1,5 @@
+pub mod Ways
+pub mod Firsts
+pub mod Scan
+pub mod Table
+pub mod Found

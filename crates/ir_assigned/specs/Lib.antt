@@ -1,0 +1,3 @@
+pub mod Graph
+pub mod Faults
+pub mod Mentions

@@ -1,0 +1,5 @@
+pub mod Adds
+pub mod Places
+pub mod Least
+pub mod Table
+pub mod Uses

@@ -1,0 +1,8 @@
+use Rattle.std.proofs.Common.{take}
+use Rattle.ir_rules.specs.Least.{IsLeast}
+use Rattle.ir_rules.specs.Occurrences.{function_events}
+use Rattle.ir_verify.specs.Faults.{AnyOf, InstFault}
+use Rattle.ir_verify.proofs.functions.block_fault.Given as goal
+
+abbrev pub invariant-loop-inst : goal.invariant-loop-inst
+invariant-loop-inst l = IsLeast (AnyOf (InstFault l.table.functions.now l.table.hosts.now (function_events l.function)) (take l.inst-index l.insts)) l.first

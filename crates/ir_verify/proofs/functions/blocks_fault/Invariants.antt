@@ -1,0 +1,7 @@
+use Rattle.std.proofs.Common.{take}
+use Rattle.ir_rules.specs.Least.{IsLeast}
+use Rattle.ir_verify.specs.Faults.{AnyOf, BlockFault}
+use Rattle.ir_verify.proofs.functions.blocks_fault.Given as goal
+
+abbrev pub invariant-loop-block : goal.invariant-loop-block
+invariant-loop-block l = IsLeast (AnyOf (BlockFault l.table.functions.now l.table.hosts.now l.function) (take l.block-index l.blocks)) l.first
