@@ -1,0 +1,17 @@
+pub mod Parts
+pub mod Machine
+pub mod Threads
+pub mod Interleaving
+pub mod Order
+pub mod Erasure
+pub mod Stamps
+pub mod Merge
+pub mod Right
+pub mod Replay
+pub mod Tree
+pub mod Theorem
+pub mod ReplayLaw
+pub mod PlainObjects
+pub mod RightErasure
+pub mod OneMerge
+pub mod Objects

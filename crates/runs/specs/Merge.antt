@@ -1,0 +1,40 @@
+-- All entries of the threads' logs in the order of their stamps.
+use Rattle.std.specs.Prelude.{◌≡◌, ◌≢◌, ℕ, ◌==◌, nat_lt, if◌then◌else◌, List, [], ◌∷◌}
+use Rattle.history.specs.declared.entry.Entry.{Entry}
+use Rattle.run_record.specs.declared.log.ThreadLog.{ThreadLog}
+use Rattle.runs.specs.Parts.{of_thread}
+use Rattle.runs.specs.Stamps.{Has, RisesFrom}
+
+abbrev pub inserted : Entry → List Entry → List Entry
+inserted x [] = x ∷ []
+inserted x (y ∷ ys) = if nat_lt x.stamp.0 y.stamp.0 then x ∷ y ∷ ys else y ∷ inserted x ys
+
+-- both lists, in stamp order where the second is
+abbrev pub merged_with : List Entry → List Entry → List Entry
+merged_with [] ys = ys
+merged_with (x ∷ xs) ys = inserted x (merged_with xs ys)
+
+abbrev pub merged : List ThreadLog → List Entry
+merged [] = []
+merged (log ∷ logs) = merged_with log.entries (merged logs)
+
+-- the entries of the log with this number, or none
+abbrev pub entries_of : List ThreadLog → ℕ → List Entry
+entries_of [] t = []
+entries_of (log ∷ logs) t = if log.number.0 == t then log.entries else entries_of logs t
+
+-- in stamp order, and each thread's part is its log
+pub record IsMerge (logs : List ThreadLog) (entries : List Entry) : Type 0 where
+  pub rises : RisesFrom 0 entries
+  pub parts : (t : ℕ) → of_thread t entries ≡ entries_of logs t
+
+-- the entries are all of this thread
+abbrev pub IsOwn : ℕ → List Entry → Type 0
+IsOwn t [] = Unit {0}
+IsOwn t (e ∷ es) = (e.thread.0 ≡ t) × IsOwn t es
+
+-- what is asked of logs: their entries are their own, stamps rise along each, and no stamp stands in two
+pub data MayMerge : List ThreadLog → Type 0 where
+  no_logs : MayMerge []
+  one_more : {log : ThreadLog} {logs : List ThreadLog} → IsOwn log.number.0 log.entries → RisesFrom 0 log.entries
+      → ((x y : Entry) → Has log.entries x → Has (merged logs) y → y.stamp.0 ≢ x.stamp.0) → MayMerge logs → MayMerge (log ∷ logs)

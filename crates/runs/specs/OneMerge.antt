@@ -1,0 +1,8 @@
+-- The merge that runs speak of is the one by which a record is reported.
+use Rattle.std.specs.Prelude.{◌≡◌}
+use Rattle.run_record.specs.declared.record.RunRecord.{RunRecord}
+use Rattle.run_record.specs.Merge as record_merge
+use Rattle.runs.specs.Merge.{merged, MayMerge}
+
+abbrev pub OneMerge : Type 0
+OneMerge = (kept : RunRecord) → MayMerge kept.threads → merged kept.threads ≡ record_merge.merged kept

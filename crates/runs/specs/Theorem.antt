@@ -1,0 +1,42 @@
+-- The statement that separate logs make one run.
+use Rattle.std.specs.Prelude.{ℕ, ◌<◌, ◌≤◌, ◌⊎◌, ◌==◌, length, List}
+use Rattle.history.specs.declared.entry.Entry.{Entry}
+use Rattle.run_record.specs.declared.log.AllocLog.{AllocLog}
+use Rattle.run_record.specs.declared.log.End.{End}
+use Rattle.bsan_ids.specs.declared.numbers.Limits.{Limits}
+use Rattle.run_record.specs.declared.log.ThreadLog.{ThreadLog}
+use Rattle.runs.specs.Parts.{of_thread, of_alloc}
+use Rattle.runs.specs.Machine.{Machine, Memory}
+use Rattle.runs.specs.Interleaving.{first_world, Allowed, Interleaves, Legal}
+use Rattle.runs.specs.Order.{InOrder, RunsToEnd}
+use Rattle.runs.specs.Stamps.{Has}
+use Rattle.runs.specs.Merge.{merged, MayMerge}
+use Rattle.runs.specs.Right.{HasLog, HasThreads, HasRuns, HasHistories, MergesToRun}
+use Rattle.runs.specs.Tree.{HasStampOrder, IsEntryRight}
+
+-- whatever the threads and the memory are: if the entries' restriction to each thread is a run of that thread from its first
+-- state, their restriction to each number is a legal history of it, and children start and end in order, they are one run
+abbrev pub LogsMakeOneRun : Machine → Memory → Allowed → Type 0
+LogsMakeOneRun M O A =
+    (turns : ℕ) (starts : ℕ → M.State) (ends : ℕ → End) (entries : List Entry)
+    → ((t : ℕ) → RunsToEnd M turns starts ends t (of_thread t entries))
+    → ((a : ℕ) → Legal O (O.unmade a) (of_alloc a entries))
+    → InOrder A ends (λ t. 0 == t) entries
+    → Interleaves M O A (first_world M O (starts 0)) entries
+
+-- a record's logs with these facts, which the threads and the desks promise, have a merge that is one run
+pub record HasPromises (M : Machine) (O : Memory) (A : Allowed) (limits : Limits) (main : ℕ) (start : M.State) (logs : List ThreadLog) (allocs : List AllocLog) : Type 0 where
+  pub threads : HasThreads main logs
+  pub runs : HasRuns M limits start logs
+  pub histories : HasHistories O limits logs allocs
+  pub order : HasStampOrder 0 logs
+  pub merges : MayMerge logs
+  pub entries : (log : ThreadLog) (e : Entry) → HasLog logs log → Has log.entries e → IsEntryRight A e e.request
+  pub stamps : (e : Entry) → Has (merged logs) e → e.stamp.0 ≤ length (merged logs)
+  pub within : length (merged logs) ≤ limits.steps
+  pub unslotted : (a : ℕ) → ((0 < a) × (a ≤ limits.allocs)) ⊎ Legal O (O.unmade a) (of_alloc a (merged logs))
+
+abbrev pub PromisesMakeOneRun : Machine → Memory → Allowed → Type 0
+PromisesMakeOneRun M O A =
+    (limits : Limits) (main : ℕ) (start : M.State) (logs : List ThreadLog) (allocs : List AllocLog)
+    → HasPromises M O A limits main start logs allocs → MergesToRun M O A limits start (merged logs)

@@ -1,0 +1,5 @@
+pub mod TwoRecords
+pub mod Erasing
+pub mod SiblingRuns
+pub mod OwnLimits
+pub mod LegalHistories

@@ -1,0 +1,6 @@
+pub mod Setting
+pub mod Laws
+pub mod TwoThreads
+pub mod ErasureLaw
+pub mod Sibling
+pub mod Histories

@@ -1,0 +1,11 @@
+pub mod Reading
+pub mod Mirroring
+pub mod Keeping
+pub mod Ending
+pub mod Joins
+pub mod JoinLaw
+pub mod JoinSteps
+pub mod Fresh
+pub mod RequestLaws
+pub mod Loopings
+pub mod TrapLaws

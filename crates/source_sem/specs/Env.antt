@@ -1,0 +1,79 @@
+-- Registers by name, operands, words at a type.
+use Rattle.std.specs.Prelude.{ℕ, ◌%◌, ◌^◌, List, [], ◌∷◌, Option, Some, None, if◌then◌else◌}
+use Rattle.std.specs.Str.{bytes_eq}
+use Rattle.history.specs.declared.ask.Arg.{Arg}
+use Rattle.bsan_ids.specs.declared.numbers.Prov.{Prov}
+use Rattle.ir_ast.specs.declared.types.Width.{Width}
+use Rattle.ir_ast.specs.declared.types.Width.TheVariants.{W8, W16, W32, W64}
+use Rattle.ir_ast.specs.declared.types.Ty.{Ty}
+use Rattle.ir_ast.specs.declared.types.Ty.TheVariants.{Int, Ptr}
+use Rattle.ir_ast.specs.declared.program.Val.{Val}
+use Rattle.ir_ast.specs.declared.program.Val.TheVariants.{Reg, Num}
+use Rattle.ir_ast.specs.declared.program.TypedVal.{TypedVal}
+use Rattle.ir_ast.specs.declared.program.Param.{Param}
+use Rattle.ir_ast.specs.declared.program.Named.{Named}
+
+-- nothing was written
+abbrev pub blank : Arg
+blank = record { value = 0; prov = None }
+
+abbrev pub plain_arg : ℕ → Arg
+plain_arg n = record { value = n; prov = None }
+
+-- registers by name, the newest first
+abbrev pub Env : Type 0
+Env = List (List ℕ × Arg)
+
+abbrev pub value_in : Env → List ℕ → Arg
+value_in [] r = blank
+value_in (e ∷ env) r = if bytes_eq e.0 r then e.1 else value_in env r
+
+abbrev pub bits : Width → ℕ
+bits W8 = 8
+bits W16 = 16
+bits W32 = 32
+bits W64 = 64
+
+-- a provenance, which only a pointer has
+abbrev pub prov_at : Ty → Option Prov → Option Prov
+prov_at (Int w) p = None
+prov_at Ptr p = p
+
+-- a word at a type
+abbrev pub word_bits : Ty → ℕ
+word_bits (Int w) = bits w
+word_bits Ptr = 64
+
+abbrev pub at_width : Ty → ℕ → ℕ
+at_width ty n = n % 2 ^ word_bits ty
+
+-- a value at a type
+abbrev pub arg_at : Ty → Arg → Arg
+arg_at ty a = record { value = a.value; prov = prov_at ty a.prov }
+
+-- an operand
+abbrev pub operand : Env → Val → Arg
+operand env (Reg r) = value_in env r.name
+operand env (Num n) = plain_arg n
+
+abbrev pub arg_of : Env → TypedVal → Arg
+arg_of env v = arg_at v.ty (operand env v.val)
+
+abbrev pub args_of : Env → List TypedVal → List Arg
+args_of env [] = []
+args_of env (v ∷ vs) = arg_of env v ∷ args_of env vs
+
+-- the parameters' values, by position; what wasn't handed over is blank
+abbrev pub bind : List Param → List Arg → Env → Env
+bind [] xs env = env
+bind (p ∷ ps) [] env = bind ps [] ((p.reg.name, blank) ∷ env)
+bind (p ∷ ps) (x ∷ xs) env = bind ps xs ((p.reg.name, arg_at p.ty x) ∷ env)
+
+abbrev pub put : Option Named → Arg → Env → Env
+put None x env = env
+put (Some r) x env = (r.name, x) ∷ env
+
+-- a result, where there is one
+abbrev pub put_some : Option Named → Option Arg → Env → Env
+put_some dest None env = env
+put_some dest (Some x) env = put dest x env

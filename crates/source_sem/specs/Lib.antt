@@ -1,0 +1,10 @@
+pub mod Env
+pub mod Parts
+pub mod Source
+pub mod Plain
+pub mod Example
+pub mod Joining
+pub mod Traces
+pub mod Requests
+pub mod Looping
+pub mod Traps

@@ -1,0 +1,559 @@
+-- The source thread: frames over the text, registers by name. With `tracked` false it is the thread of the plain program.
+use Rattle.std.specs.Prelude.{◌≡◌, ◌<◌, ◌⊎◌, ℕ, zero, suc, ◌+◌, ◌%◌, ◌^◌, List, [], ◌∷◌, Option, Some, None, Bool, true, false, if◌then◌else◌, length, nat_lt, slice_get}
+use Rattle.std.specs.Str.{bytes_eq}
+use Rattle.bsan_ids.specs.declared.numbers.AllocNo.{AllocNo}
+use Rattle.history.specs.declared.ask.Arg.{Arg}
+use Rattle.history.specs.declared.ask.Ask.{Ask}
+use Rattle.history.specs.declared.ask.Ask.TheVariants as ask
+use Rattle.history.specs.declared.entry.Entry.{Entry}
+use Rattle.perm_table.specs.declared.Guard.{Guard}
+use Rattle.perm_table.specs.declared.Guard.TheVariants.{Free, Weak, Strong}
+use Rattle.history.specs.declared.ask.MachineEnd.{MachineEnd}
+use Rattle.history.specs.declared.ask.MachineEnd.TheVariants as end
+use Rattle.history.specs.declared.entry.Plain.{Plain}
+use Rattle.history.specs.declared.entry.Plain.TheVariants as plain
+use Rattle.history.specs.declared.entry.Reply.{Reply}
+use Rattle.history.specs.declared.entry.Request.{Request}
+use Rattle.history.specs.declared.entry.Request.TheVariants as request
+use Rattle.perm_table.specs.declared.RetagKind.{RetagKind}
+use Rattle.perm_table.specs.declared.RetagKind.TheVariants as kind
+use Rattle.history.specs.declared.trap.Trap.{Trap}
+use Rattle.history.specs.declared.trap.Trap.TheVariants as trap
+use Rattle.ir_ast.specs.declared.types.Ty.{Ty}
+use Rattle.ir_ast.specs.declared.types.Ty.TheVariants.{Int, Ptr}
+use Rattle.ir_ast.specs.declared.types.Width.TheVariants.{W64}
+use Rattle.ir_ast.specs.declared.types.Attr.{Attr}
+use Rattle.ir_ast.specs.declared.program.Block.{Block}
+use Rattle.ir_ast.specs.declared.program.Function.{Function}
+use Rattle.ir_ast.specs.declared.program.Goal.{Goal}
+use Rattle.ir_ast.specs.declared.program.Inst.{Inst}
+use Rattle.ir_ast.specs.declared.program.Jump.{Jump}
+use Rattle.ir_ast.specs.declared.program.Jump.TheVariants as jump
+use Rattle.ir_ast.specs.declared.program.Named.{Named}
+use Rattle.ir_ast.specs.declared.program.Op.{Op}
+use Rattle.ir_ast.specs.declared.program.Op.TheVariants as op
+use Rattle.ir_ast.specs.declared.program.Param.{Param}
+use Rattle.ir_ast.specs.declared.program.Program.{Program}
+use Rattle.ir_ast.specs.declared.program.TypedVal.{TypedVal}
+use Rattle.runs.specs.Machine.{Machine}
+use Rattle.runs.specs.Erasure.{trap_of}
+use Rattle.source_sem.specs.Env.{Env, blank, plain_arg, value_in, operand, arg_of, args_of, prov_at, arg_at, bind, put, put_some, bits}
+use Rattle.source_sem.specs.Parts.{Part, Gives, Steps, Retags, Copies, Calls, Joins, Accesses, Prints, Spawns, Loads, Stores, Modifies, Compares, Frees, part_ask, retag_ask, Progress, untouched, copy_ask, copy_after, copy_done, Owned, nothing_owned, release_ask, released, protect, without, number_in, step_owned, step_started, step_result, moved, binary_part, compared, chosen, cast_arg, input_arg, make_part, makes_step, retag_part, copy_part, call_part, host_part, join_part}
+
+-- the program, its input, the hosts' names, and whether provenance is kept: without it this is the plain program
+pub record Setting : Type 0 where
+  pub program : Program
+  pub input : List ℕ
+  pub hosts : List (List ℕ)
+  pub tracked : Bool
+
+-- which part a frame does next
+pub data Doing : Type 0 where
+  Ready : Doing
+  Entering : List Param → Doing
+  Copying : Progress → Doing
+  Waiting : Option Named → Option Ty → Option Attr → Doing
+  Retagging : Option Named → Arg → Attr → Doing
+  Leaving : Arg → Doing
+
+-- a frame: its function, what is left of its block, the number of the instruction, its registers
+pub record Frame : Type 0 where
+  pub function : ℕ
+  pub insts : List Inst
+  pub term : Jump
+  pub number : ℕ
+  pub env : Env
+  pub owned : Owned
+  pub doing : Doing
+
+-- a thread: the newest frame first; how it ended and the number of its last instruction, once no frame is left; its count; its children
+pub record Source : Type 0 where
+  pub frames : List Frame
+  pub over : MachineEnd
+  pub last : ℕ
+  pub count : ℕ
+  pub started : List ℕ
+
+abbrev pub guard_of : RetagKind → Guard
+guard_of kind.Boxed = Weak
+guard_of other = Strong
+
+-- numbers of instructions
+abbrev pub block_count : Block → ℕ
+block_count b = length b.insts + 1
+
+abbrev pub number_of_block : ℕ → List Block → ℕ → ℕ
+number_of_block base bs zero = base
+number_of_block base [] (suc k) = base
+number_of_block base (b ∷ bs) (suc k) = number_of_block (base + block_count b) bs k
+
+abbrev pub blocks_end : ℕ → List Block → ℕ
+blocks_end base [] = base
+blocks_end base (b ∷ bs) = blocks_end (base + block_count b) bs
+
+abbrev pub number_of_function : ℕ → List Function → ℕ → ℕ
+number_of_function base [] k = base
+number_of_function base (f ∷ fs) zero = base
+number_of_function base (f ∷ fs) (suc k) = number_of_function (blocks_end base f.blocks) fs k
+
+-- the place of a name, and the length where it isn't there
+abbrev pub function_place : List Function → List ℕ → ℕ
+function_place [] name = 0
+function_place (f ∷ fs) name = if bytes_eq f.name.name name then 0 else suc (function_place fs name)
+
+abbrev pub block_place : List Block → List ℕ → ℕ
+block_place [] label = 0
+block_place (b ∷ bs) label = if bytes_eq b.label.name label then 0 else suc (block_place bs label)
+
+abbrev pub host_place : List (List ℕ) → List ℕ → ℕ
+host_place [] name = 0
+host_place (h ∷ hs) name = if bytes_eq h name then 0 else suc (host_place hs name)
+
+-- the attribute of a function's result
+abbrev pub result_attr : Option Function → Option Attr
+result_attr None = None
+result_attr (Some g) = g.result.attr
+
+abbrev pub attr_named : List Function → List ℕ → Option Attr
+attr_named fs name = result_attr (slice_get fs (function_place fs name))
+
+-- the attribute of the result of the function that was spawned through a handle
+abbrev pub is_dest : Option Named → List ℕ → Bool
+is_dest None h = false
+is_dest (Some n) h = bytes_eq n.name h
+
+abbrev pub spawn_attr : List Function → Op → Option Attr
+spawn_attr fs (op.Spawn function args) = attr_named fs function.name
+spawn_attr fs other = None
+
+abbrev pub insts_attr : List Function → List ℕ → List Inst → Option Attr → Option Attr
+insts_attr fs h [] miss = miss
+insts_attr fs h (i ∷ is) miss = if is_dest i.dest h then spawn_attr fs i.op else insts_attr fs h is miss
+
+abbrev pub blocks_attr : List Function → List ℕ → List Block → Option Attr
+blocks_attr fs h [] = None
+blocks_attr fs h (b ∷ bs) = insts_attr fs h b.insts (blocks_attr fs h bs)
+
+abbrev pub handle_attr_in : List Function → List ℕ → Option Function → Option Attr
+handle_attr_in fs h None = None
+handle_attr_in fs h (Some g) = blocks_attr fs h g.blocks
+
+abbrev pub handle_attr : List Function → ℕ → List ℕ → Option Attr
+handle_attr fs k h = handle_attr_in fs h (slice_get fs k)
+
+-- what an instruction does, in function k, at this depth of frames, with these registers
+abbrev pub op_part : Setting → ℕ → ℕ → Env → Op → Part
+op_part x k depth env (op.Const w v) = Gives (Some (plain_arg (v % 2 ^ bits w)))
+op_part x k depth env op.Null = Gives (Some blank)
+op_part x k depth env (op.Make place size) = make_part place (operand env size)
+op_part x k depth env (op.Gep p v) = Gives (Some (moved (value_in env p.name) (operand env v)))
+op_part x k depth env (op.Load ty p) = Steps (Accesses (value_in env p.name) (Loads ty))
+op_part x k depth env (op.Store ty v p) = Steps (Accesses (value_in env p.name) (Stores ty (operand env v)))
+op_part x k depth env (op.Retag kind p n) = retag_part (makes_step x.tracked n) (value_in env p.name) kind n
+op_part x k depth env (op.Binary o w a b) = binary_part o w (operand env a) (operand env b)
+op_part x k depth env (op.Compare c ty a b) = Gives (Some (compared c ty (operand env a) (operand env b)))
+op_part x k depth env (op.Select ty c a b) = Gives (Some (arg_at ty (chosen (operand env c).value (operand env a) (operand env b))))
+op_part x k depth env (op.Cast o v w a to_at) = Gives (Some (cast_arg o v w (operand env a)))
+op_part x k depth env (op.PtrToInt p) = Gives (Some (plain_arg (value_in env p.name).value))
+op_part x k depth env (op.Input v) = Gives (Some (input_arg x.input (operand env v)))
+op_part x k depth env (op.Modify o w p v) = Steps (Accesses (value_in env p.name) (Modifies w o (operand env v).value))
+op_part x k depth env (op.CmpXchg w p e v) = Steps (Accesses (value_in env p.name) (Compares w (operand env e).value (operand env v).value))
+op_part x k depth env (op.Copy d s v) = copy_part (value_in env d.name) (value_in env s.name) (operand env v)
+op_part x k depth env (op.Free p) = Steps (Accesses (value_in env p.name) Frees)
+op_part x k depth env (op.Print w v) = Steps (Prints ((operand env v).value % 2 ^ bits w))
+op_part x k depth env (op.Call ty name args) =
+    call_part (nat_lt depth 1024) (function_place x.program.functions name.name) (args_of env args) ty (attr_named x.program.functions name.name)
+op_part x k depth env (op.Host ty name args) = host_part (host_place x.hosts name.name) (args_of env args)
+op_part x k depth env (op.Spawn name args) = Steps (Spawns (function_place x.program.functions name.name) (args_of env args))
+op_part x k depth env (op.Join ty at h) = join_part (value_in env h.name) ty (handle_attr x.program.functions k h.name)
+
+-- frames -------------------------------------------------------------------
+
+-- the next instruction of the block
+abbrev pub advance : Frame → List Inst → Env → Owned → Frame
+advance f rest env o = record f { insts = rest; number = f.number + 1; env = env; owned = o; doing = Ready }
+
+-- the frame at the beginning of a block; without one it ends in Unreachable
+abbrev pub in_block : Frame → Option Block → ℕ → List Arg → Frame
+in_block f None n xs = record f { insts = []; term = jump.Unreachable; number = n; doing = Ready }
+in_block f (Some b) n xs = record f { insts = b.insts; term = b.term.jump; number = n; env = bind b.params xs f.env; doing = Ready }
+
+abbrev pub goto_in : Setting → Frame → Option Function → Goal → Frame
+goto_in x f None goal = in_block f None f.number []
+goto_in x f (Some g) goal =
+    in_block f (slice_get g.blocks (block_place g.blocks goal.label.name)) (number_of_block (number_of_function 0 x.program.functions f.function) g.blocks (block_place g.blocks goal.label.name)) (args_of f.env goal.args)
+
+abbrev pub goto : Setting → Frame → Goal → Frame
+goto x f goal = goto_in x f (slice_get x.program.functions f.function) goal
+
+-- the parameters that are still to be retagged
+abbrev pub has_step : Bool → Option Attr → Bool
+has_step tracked None = false
+has_step tracked (Some a) = makes_step tracked a.size
+
+abbrev pub to_retag : Bool → List Param → List Param
+to_retag tracked [] = []
+to_retag tracked (p ∷ ps) = if has_step tracked p.attr then p ∷ to_retag tracked ps else to_retag tracked ps
+
+abbrev pub entering : List Param → Doing
+entering [] = Ready
+entering (p ∷ ps) = Entering (p ∷ ps)
+
+abbrev pub first_insts : Option Block → List Inst
+first_insts None = []
+first_insts (Some b) = b.insts
+
+abbrev pub first_term : Option Block → Jump
+first_term None = jump.Unreachable
+first_term (Some b) = b.term.jump
+
+-- a new frame of a function
+abbrev pub frame_of : Setting → ℕ → Option Function → List Arg → Frame
+frame_of x k None xs = record { function = k; insts = []; term = jump.Unreachable; number = 0; env = []; owned = nothing_owned; doing = Ready }
+frame_of x k (Some g) xs = record {
+  function = k;
+  insts = first_insts (slice_get g.blocks 0);
+  term = first_term (slice_get g.blocks 0);
+  number = number_of_function 0 x.program.functions k;
+  env = bind g.params xs [];
+  owned = nothing_owned;
+  doing = entering (to_retag x.tracked g.params);
+}
+
+abbrev pub new_frame : Setting → ℕ → List Arg → Frame
+new_frame x k xs = frame_of x k (slice_get x.program.functions k) xs
+
+-- a result comes to the instruction that waits for it
+abbrev pub taken : Option Ty → Arg → Option Arg
+taken None v = None
+taken (Some ty) v = Some (arg_at ty v)
+
+abbrev pub taken_arg : Option Ty → Arg → Arg
+taken_arg None v = blank
+taken_arg (Some ty) v = arg_at ty v
+
+abbrev pub result_step : Bool → Option Ty → Option Attr → Option Attr
+result_step tracked (Some Ptr) (Some a) = if makes_step tracked a.size then Some a else None
+result_step tracked ty attr = None
+
+-- the frame of which the instruction has its result, with a retag of it where it has an attribute
+abbrev pub resumed_by : Frame → Option Named → Option Ty → Option Attr → Arg → Frame
+resumed_by f dest ty None v = record f { number = f.number + 1; env = put_some dest (taken ty v) f.env; doing = Ready }
+resumed_by f dest ty (Some a) v = record f { env = put_some dest (taken ty v) f.env; doing = Retagging dest (taken_arg ty v) a }
+
+abbrev pub resumed : Bool → Frame → Doing → Arg → Frame
+resumed tracked f (Waiting dest ty attr) v = resumed_by f dest ty (result_step tracked ty attr) v
+resumed tracked f other v = record f { insts = []; term = jump.Unreachable; doing = Ready }
+
+-- the thread with these frames
+abbrev pub at_frames : Source → List Frame → Source
+at_frames t fs = record t { frames = fs }
+
+-- the return of frame f to its callers
+abbrev pub return_to : Bool → Source → Frame → List Frame → Arg → Source
+return_to tracked t f [] v = record t { frames = []; over = end.Returned v.value v.prov; last = f.number }
+return_to tracked t f (g ∷ gs) v = record t { frames = resumed tracked g g.doing v ∷ gs }
+
+-- the value of a return
+abbrev pub returned_value : Env → Option TypedVal → Arg
+returned_value env None = blank
+returned_value env (Some v) = arg_of env v
+
+-- asks ---------------------------------------------------------------------
+
+-- what a thread asks that stands nowhere; no thread of an accepted program does
+abbrev pub nowhere : Ask
+nowhere = ask.Ended (end.Trapped trap.Unreachable)
+
+abbrev pub release_or : Option Ask → Ask → Ask
+release_or None a = a
+release_or (Some b) a = b
+
+abbrev pub term_ask : Frame → Jump → Ask
+term_ask f (jump.Br goal) = ask.Turn
+term_ask f (jump.CondBr v first second) = ask.Turn
+term_ask f (jump.Ret v at) = release_or (release_ask f.owned) ask.Turn
+term_ask f jump.Unreachable = ask.Ended (end.Trapped trap.Unreachable)
+
+abbrev pub ready_ask : Setting → Frame → ℕ → List Inst → Ask
+ready_ask x f depth [] = term_ask f f.term
+ready_ask x f depth (i ∷ rest) = part_ask (op_part x f.function depth f.env i.op)
+
+abbrev pub copying_by : Part → Progress → Ask
+copying_by (Copies d s n) pr = copy_ask d s n pr
+copying_by other pr = nowhere
+
+abbrev pub copying_ask : Setting → Frame → ℕ → List Inst → Progress → Ask
+copying_ask x f depth [] pr = nowhere
+copying_ask x f depth (i ∷ rest) pr = copying_by (op_part x f.function depth f.env i.op) pr
+
+abbrev pub entry_ask : Arg → Option Attr → Ask
+entry_ask v None = nowhere
+entry_ask v (Some a) = retag_ask v a.kind (guard_of a.kind) a.size
+
+abbrev pub entering_ask : Env → List Param → Ask
+entering_ask env [] = nowhere
+entering_ask env (p ∷ ps) = entry_ask (value_in env p.reg.name) p.attr
+
+abbrev pub doing_ask : Setting → Frame → ℕ → Doing → Ask
+doing_ask x f depth Ready = ready_ask x f depth f.insts
+doing_ask x f depth (Entering ps) = entering_ask f.env ps
+doing_ask x f depth (Copying pr) = copying_ask x f depth f.insts pr
+doing_ask x f depth (Waiting dest ty attr) = nowhere
+doing_ask x f depth (Retagging dest v a) = retag_ask v a.kind Free a.size
+doing_ask x f depth (Leaving v) = release_or (release_ask f.owned) nowhere
+
+abbrev pub frames_ask : Setting → List Frame → MachineEnd → Ask
+frames_ask x [] over = ask.Ended over
+frames_ask x (f ∷ fs) over = doing_ask x f (suc (length fs)) f.doing
+
+abbrev pub source_ask : Setting → Source → Ask
+source_ask x t = frames_ask x t.frames t.over
+
+-- local turns --------------------------------------------------------------
+
+-- the frame's call waits for its result
+abbrev pub waiting : Frame → List Inst → Option Named → Option Ty → Option Attr → Frame
+waiting f rest dest ty attr = record f { insts = rest; doing = Waiting dest ty attr }
+
+abbrev pub part_turn : Setting → Source → Frame → List Frame → List Inst → Option Named → Part → Source
+part_turn x t f fs rest dest (Gives v) = at_frames t (advance f rest (put_some dest v f.env) f.owned ∷ fs)
+part_turn x t f fs rest dest (Calls k xs ty attr) = at_frames t (new_frame x k xs ∷ waiting f rest dest ty attr ∷ fs)
+part_turn x t f fs rest dest other = t
+
+abbrev pub term_turn : Setting → Source → Frame → List Frame → Jump → Source
+term_turn x t f fs (jump.Br goal) = at_frames t (goto x f goal ∷ fs)
+term_turn x t f fs (jump.CondBr v first second) = at_frames t (goto x f (chosen (operand f.env v).value first second) ∷ fs)
+term_turn x t f fs (jump.Ret v at) = return_to x.tracked t f fs (returned_value f.env v)
+term_turn x t f fs jump.Unreachable = t
+
+abbrev pub ready_turn : Setting → Source → Frame → List Frame → List Inst → Source
+ready_turn x t f fs [] = term_turn x t f fs f.term
+ready_turn x t f fs (i ∷ rest) = part_turn x t f fs rest i.dest (op_part x f.function (suc (length fs)) f.env i.op)
+
+abbrev pub frames_turn : Setting → Source → List Frame → Source
+frames_turn x t [] = t
+frames_turn x t (f ∷ fs) = ready_turn x t f fs f.insts
+
+abbrev pub counted : Source → Source
+counted t = record t { count = t.count + 1 }
+
+abbrev pub source_turn : Setting → Source → Source
+source_turn x t = frames_turn x (counted t) t.frames
+
+-- answers ------------------------------------------------------------------
+
+-- the frame's return, where nothing is left to give up
+abbrev pub leave : Bool → Source → Frame → List Frame → Arg → Option Ask → Source
+leave tracked t f fs v None = return_to tracked t f fs v
+leave tracked t f fs v (Some a) = at_frames t (record f { doing = Leaving v } ∷ fs)
+
+abbrev pub leave_with : Bool → Source → Frame → List Frame → Arg → Owned → Source
+leave_with tracked t f fs v o = leave tracked t (record f { owned = o }) fs v (release_ask o)
+
+abbrev pub leave_on : Bool → Source → Frame → List Frame → Arg → Source
+leave_on tracked t f fs v = leave_with tracked t f fs v (released f.owned)
+
+abbrev pub copy_on : Source → Frame → List Frame → List Inst → Progress → Bool → Source
+copy_on t f fs rest pr true = at_frames t (advance f rest f.env f.owned ∷ fs)
+copy_on t f fs rest pr false = at_frames t (record f { doing = Copying pr } ∷ fs)
+
+abbrev pub copied : Source → Frame → List Frame → List Inst → ℕ → Progress → Source
+copied t f fs rest n pr = copy_on t f fs rest pr (copy_done n pr)
+
+abbrev pub joined : Owned → ℕ → Owned
+joined o c = record o { children = without c o.children }
+
+abbrev pub part_answer : Setting → Source → Frame → List Frame → List Inst → Option Named → Part → Reply → Source
+part_answer x t f fs rest dest (Steps s) r =
+    record t { frames = advance f rest (put_some dest (step_result s r) f.env) (step_owned s r f.owned) ∷ fs; started = step_started s r t.started }
+part_answer x t f fs rest dest (Retags p kind n) r =
+    at_frames t (advance f rest (put dest (record { value = p.value; prov = r.carried }) f.env) f.owned ∷ fs)
+part_answer x t f fs rest dest (Copies d s n) r = copied t f fs rest n (copy_after untouched r.plain)
+part_answer x t f fs rest dest (Joins c ty attr) r =
+    at_frames t (resumed_by (record f { insts = rest; owned = joined f.owned c }) dest ty (result_step x.tracked ty attr) (record { value = number_in r.plain; prov = r.carried }) ∷ fs)
+part_answer x t f fs rest dest other r = t
+
+abbrev pub term_answer : Bool → Source → Frame → List Frame → Jump → Source
+term_answer tracked t f fs (jump.Ret v at) = leave_on tracked t f fs (returned_value f.env v)
+term_answer tracked t f fs other = t
+
+abbrev pub ready_answer : Setting → Source → Frame → List Frame → List Inst → Reply → Source
+ready_answer x t f fs [] r = term_answer x.tracked t f fs f.term
+ready_answer x t f fs (i ∷ rest) r = part_answer x t f fs rest i.dest (op_part x f.function (suc (length fs)) f.env i.op) r
+
+abbrev pub copying_part : Source → Frame → List Frame → List Inst → Part → Progress → Reply → Source
+copying_part t f fs rest (Copies d s n) pr r = copied t f fs rest n (copy_after pr r.plain)
+copying_part t f fs rest other pr r = t
+
+abbrev pub copying_answer : Setting → Source → Frame → List Frame → List Inst → Progress → Reply → Source
+copying_answer x t f fs [] pr r = t
+copying_answer x t f fs (i ∷ rest) pr r = copying_part t f fs rest (op_part x f.function (suc (length fs)) f.env i.op) pr r
+
+abbrev pub entered : Frame → Param → List Param → Reply → Frame
+entered f p ps r =
+    record f { env = (p.reg.name, record { value = (value_in f.env p.reg.name).value; prov = r.carried }) ∷ f.env; owned = protect r.plain r.carried f.owned; doing = entering ps }
+
+abbrev pub entering_answer : Source → Frame → List Frame → List Param → Reply → Source
+entering_answer t f fs [] r = t
+entering_answer t f fs (p ∷ ps) r = at_frames t (entered f p ps r ∷ fs)
+
+abbrev pub retagged : Frame → Option Named → Arg → Reply → Frame
+retagged f dest v r = record f { number = f.number + 1; env = put dest (record { value = v.value; prov = r.carried }) f.env; doing = Ready }
+
+abbrev pub doing_answer : Setting → Source → Frame → List Frame → Doing → Reply → Source
+doing_answer x t f fs Ready r = ready_answer x t f fs f.insts r
+doing_answer x t f fs (Entering ps) r = entering_answer t f fs ps r
+doing_answer x t f fs (Copying pr) r = copying_answer x t f fs f.insts pr r
+doing_answer x t f fs (Waiting dest ty attr) r = t
+doing_answer x t f fs (Retagging dest v a) r = at_frames t (retagged f dest v r ∷ fs)
+doing_answer x t f fs (Leaving v) r = leave_on x.tracked t f fs v
+
+-- a trap ends the thread
+abbrev pub frames_answer : Setting → Source → List Frame → Option Trap → Reply → Source
+frames_answer x t [] e r = t
+frames_answer x t (f ∷ fs) (Some e) r = record t { frames = []; over = end.Trapped e; last = f.number }
+frames_answer x t (f ∷ fs) None r = doing_answer x t f fs f.doing r
+
+-- would the next part be an instruction's first
+abbrev pub is_ready : Doing → Bool
+is_ready Ready = true
+is_ready other = false
+
+abbrev pub frames_begin : List Frame → Bool
+frames_begin [] = false
+frames_begin (f ∷ fs) = is_ready f.doing
+
+abbrev pub source_begins : Source → Bool
+source_begins t = frames_begin t.frames
+
+-- an instruction counts once, with its first part
+abbrev pub counted_if : Bool → Source → Source
+counted_if true t = counted t
+counted_if false t = t
+
+abbrev pub source_answer : Setting → Source → Reply → Source
+source_answer x t r = frames_answer x (counted_if (source_begins t) t) t.frames (trap_of r.plain) r
+
+-- the number of the instruction at which the thread stands, or of its last one
+abbrev pub frames_site : List Frame → ℕ → ℕ
+frames_site [] last = last
+frames_site (f ∷ fs) last = f.number
+
+abbrev pub source_site : Source → ℕ
+source_site t = frames_site t.frames t.last
+
+-- a new thread
+abbrev pub source_start : Setting → ℕ → List Arg → Source
+source_start x k xs = record { frames = new_frame x k xs ∷ []; over = end.Trapped trap.Unreachable; last = 0; count = 0; started = [] }
+
+-- the child that a spawn starts
+abbrev pub part_child : Setting → Part → Source
+part_child x (Steps (Spawns k xs)) = source_start x k xs
+part_child x other = source_start x 0 []
+
+abbrev pub insts_child : Setting → Frame → ℕ → List Inst → Source
+insts_child x f depth [] = source_start x 0 []
+insts_child x f depth (i ∷ is) = part_child x (op_part x f.function depth f.env i.op)
+
+abbrev pub frames_child : Setting → List Frame → Source
+frames_child x [] = source_start x 0 []
+frames_child x (f ∷ fs) = insts_child x f (suc (length fs)) f.insts
+
+abbrev pub source_child : Setting → Source → Source
+source_child x t = frames_child x t.frames
+
+-- replies that fit -----------------------------------------------------------
+
+-- a word of this type, with a provenance only where it is a pointer
+pub record ValueFits (ty : Ty) (v : Arg) : Type 0 where
+  pub word : v.value < 2 ^ Rattle.source_sem.specs.Env.word_bits ty
+  pub prov : prov_at ty v.prov ≡ v.prov
+
+abbrev pub IsTrap : Plain → Type 0
+IsTrap (plain.Trapped e) = Unit {0}
+IsTrap other = ⊥
+
+abbrev pub IsDone : Plain → Type 0
+IsDone plain.Done = Unit {0}
+IsDone other = ⊥
+
+abbrev pub ValueIn : Ty → Reply → Plain → Type 0
+ValueIn ty r (plain.Value v) = ValueFits ty (record { value = v; prov = r.carried })
+ValueIn ty r (plain.Trapped e) = Unit {0}
+ValueIn ty r other = ⊥
+
+abbrev pub CopiedOf : ℕ → Plain → Type 0
+CopiedOf n (plain.Copied piece) = length piece ≡ n
+CopiedOf n (plain.Trapped e) = Unit {0}
+CopiedOf n other = ⊥
+
+abbrev pub MadeAt : Entry → Plain → Type 0
+MadeAt e (plain.Made a) = (e.alloc ≡ Some a) × (e.reply.carried ≡ Some (record { alloc = a; tag = record { 0 = e.stamp.0 } }))
+MadeAt e other = ⊥
+
+abbrev pub RetaggedAt : Entry → Plain → Type 0
+RetaggedAt e (plain.Retagged true) = (a : AllocNo) × (e.alloc ≡ Some a) × (e.reply.carried ≡ Some (record { alloc = a; tag = record { 0 = e.stamp.0 } }))
+RetaggedAt e (plain.Retagged false) = Unit {0}
+RetaggedAt e other = ⊥
+
+abbrev pub SpawnedChild : Plain → Type 0
+SpawnedChild (plain.Spawned c) = (0 < c.0) × (c.0 < 2 ^ 32)
+SpawnedChild other = ⊥
+
+-- the type that a join names, if the thread stands at one
+abbrev pub part_type : Part → Option Ty
+part_type (Joins c ty attr) = ty
+part_type other = None
+
+abbrev pub JoinFits : Option Ty → Reply → Plain → Type 0
+JoinFits (Some ty) r p = ValueIn ty r p
+JoinFits None r (plain.Value v) = Unit {0}
+JoinFits None r other = ⊥
+
+abbrev pub ReplyFits : Option Ty → Entry → Request → Type 0
+ReplyFits ty e (request.Make n place) = MadeAt e e.reply.plain
+ReplyFits ty e (request.Load at u prov) = ValueIn u e.reply e.reply.plain
+ReplyFits ty e (request.Store at u v c prov) = IsDone e.reply.plain ⊎ IsTrap e.reply.plain
+ReplyFits ty e (request.Modify at w o v prov) = ValueIn (Int w) e.reply e.reply.plain
+ReplyFits ty e (request.CmpXchg at w a v prov) = ValueIn (Int w) e.reply e.reply.plain
+ReplyFits ty e (request.CopyOut at n prov) = CopiedOf n e.reply.plain
+ReplyFits ty e (request.CopyIn at piece prov) = IsDone e.reply.plain ⊎ IsTrap e.reply.plain
+ReplyFits ty e (request.Free at stack prov) = IsDone e.reply.plain ⊎ IsTrap e.reply.plain
+ReplyFits ty e (request.Retag at n kind guard prov) = RetaggedAt e e.reply.plain
+ReplyFits ty e (request.EndProtector tag) = IsDone e.reply.plain
+ReplyFits ty e (request.Print v) = IsDone e.reply.plain
+ReplyFits ty e (request.Host n a b) = ValueIn (Int W64) e.reply e.reply.plain × (IsTrap e.reply.plain → ⊥)
+ReplyFits ty e (request.Spawn k) = SpawnedChild e.reply.plain
+ReplyFits ty e (request.Join c) = JoinFits ty e.reply e.reply.plain × (IsTrap e.reply.plain → ⊥)
+
+abbrev pub insts_type : Setting → Frame → ℕ → List Inst → Option Ty
+insts_type x f depth [] = None
+insts_type x f depth (i ∷ is) = part_type (op_part x f.function depth f.env i.op)
+
+abbrev pub frames_type : Setting → List Frame → Option Ty
+frames_type x [] = None
+frames_type x (f ∷ fs) = insts_type x f (suc (length fs)) f.insts
+
+abbrev pub source_fits : Setting → Source → Entry → Type 0
+source_fits x t e = ReplyFits (frames_type x t.frames) e e.request
+
+abbrev pub source : Setting → Machine
+source x = record {
+  State = Source;
+  ask = source_ask x;
+  site = source_site;
+  begins = source_begins;
+  count = λ t. t.count;
+  fits = source_fits x;
+  turn = source_turn x;
+  after = λ t e. source_answer x t e.reply;
+  child = source_child x;
+}
+
+abbrev pub plain_setting : Setting → Setting
+plain_setting x = record x { tracked = false }
+
+-- only an instruction of which no part is done is a local turn
+abbrev pub TurnsAreFresh : Type 0
+TurnsAreFresh = (x : Setting) (s : Source) → source_ask x s ≡ ask.Turn → source_begins s ≡ true
