@@ -1,0 +1,31 @@
+//! What the words of a command line ask for. The first word names the command, and `clap` reads the rest.
+#![tactic(auto)]
+
+ghost use Rattle.std.specs.Prelude.{◌≡◌};
+
+mod commands;
+mod jobs;
+#[cfg(test)]
+mod tests;
+
+pub use jobs::{Job, read_job};
+use std::alloc::AllocError;
+
+/// Why the words ask for nothing.
+#[derive(Clone, Copy, Debug, PartialEq, Eq)]
+pub enum WordsFault {
+    /// They are no command's.
+    Refused,
+    /// Memory ran out while they were read.
+    NoMemory,
+}
+
+impl From<AllocError> for WordsFault {
+    ghost use Rattle.command_words.specs.declared.WordsFault.TheVariants.{NoMemory};
+
+    ghost from_gives = { λ _ fault. fault ≡ NoMemory };
+
+    fn from(_: AllocError) -> WordsFault {
+        WordsFault::NoMemory
+    }
+}
