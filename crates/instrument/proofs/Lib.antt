@@ -1,0 +1,10 @@
+pub mod Sets
+pub mod Ends
+pub mod Known
+pub mod Defining
+pub mod Neighbours
+pub mod Exist
+pub mod Whole
+pub mod Once
+pub mod Accepted
+pub mod Single

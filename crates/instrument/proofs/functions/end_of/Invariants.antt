@@ -1,0 +1,6 @@
+use Rattle.std.proofs.Common.{◌≡◌, drop}
+use Rattle.instrument.specs.Translation.{blocks_end}
+use Rattle.instrument.proofs.functions.end_of.Given as goal
+
+abbrev pub invariant-loop-block : goal.invariant-loop-block
+invariant-loop-block l = blocks_end l.number (drop l.block-index l.blocks) ≡ blocks_end l.first l.blocks

@@ -1,0 +1,58 @@
+-- Names that stand once, and lists that are short enough for numbers of 32 bits.
+use Rattle.std.specs.Prelude.{◌≡◌, ℕ, ◌^◌, ◌<◌, false, List, [], ◌∷◌, length}
+use Rattle.std.specs.List.{list_any}
+use Rattle.std.specs.Str.{bytes_eq}
+use Rattle.ir_ast.specs.Tokens.{Each}
+use Rattle.ir_ast.specs.declared.program.Op.{Op}
+use Rattle.ir_ast.specs.declared.program.Op.TheVariants as op
+use Rattle.ir_ast.specs.declared.program.Jump.{Jump}
+use Rattle.ir_ast.specs.declared.program.Jump.TheVariants.{Br, CondBr}
+use Rattle.ir_ast.specs.declared.program.Block.{Block}
+use Rattle.ir_ast.specs.declared.program.Function.{Function}
+use Rattle.ir_ast.specs.declared.program.Program.{Program}
+use Rattle.ir_ast.specs.declared.hosts.HostEntry.{HostEntry}
+use Rattle.instrument.specs.Translation.{function_names, labels, registers, definitions, blocks_end}
+
+-- no name stands twice
+abbrev pub IsOnce : List (List ℕ) → Type 0
+IsOnce [] = Unit {0}
+IsOnce (n ∷ ns) = (list_any (bytes_eq n) ns ≡ false) × IsOnce ns
+
+-- the items have numbers of 32 bits
+abbrev pub Numbered : {A : Type 0} → List A → Type 0
+Numbered xs = length xs < 2 ^ 32
+
+abbrev pub OpNumbered : Op → Type 0
+OpNumbered (op.Call result function args) = Numbered args
+OpNumbered (op.Spawn function args) = Numbered args
+OpNumbered _ = Unit {0}
+
+abbrev pub JumpNumbered : Jump → Type 0
+JumpNumbered (Br goal) = Numbered goal.args
+JumpNumbered (CondBr cond first second) = Numbered first.args × Numbered second.args
+JumpNumbered _ = Unit {0}
+
+pub record BlockNumbered (b : Block) : Type 0 where
+  pub params : Numbered b.params
+  pub ops : Each (λ i. OpNumbered i.op) b.insts
+  pub jump : JumpNumbered b.term.jump
+
+-- a function whose registers and labels stand once and which is short enough
+pub record FunctionNumbered (fs : List Function) (f : Function) : Type 0 where
+  pub registers_once : IsOnce (registers (definitions fs f))
+  pub labels_once : IsOnce (labels f.blocks)
+  pub few_registers : Numbered (definitions fs f)
+  pub few_blocks : Numbered f.blocks
+  pub few_params : Numbered f.params
+  pub blocks : Each BlockNumbered f.blocks
+
+abbrev pub program_end : ℕ → List Function → ℕ
+program_end n [] = n
+program_end n (f ∷ fs) = program_end (blocks_end n f.blocks) fs
+
+pub record IsNumbered (hosts : List HostEntry) (p : Program) : Type 0 where
+  pub functions_once : IsOnce (function_names p.functions)
+  pub few_functions : Numbered p.functions
+  pub few_hosts : Numbered hosts
+  pub few_instructions : program_end 0 p.functions < 2 ^ 32
+  pub functions : Each (FunctionNumbered p.functions) p.functions

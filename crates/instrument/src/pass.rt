@@ -1,0 +1,19 @@
+//! The pass over verified programs.
+ghost use Rattle.std.specs.Prelude.{◌≡◌, IfOk};
+ghost use Rattle.instrument.specs.Translation.{translation};
+
+use crate::functions::translate;
+use bsan_ids::NoMemory;
+use ir_verify::Verified;
+use std::alloc::Global;
+use target_code::Target;
+
+/// The target code of a verified program.
+///
+/// # Errors
+/// Only where memory is wanting.
+pub fn instrument(alloc: Global, program: &Verified) -> Result<Target, NoMemory>
+    ensures { IfOk result (λ target. target ≡ translation program.now.hosts.entries program.now.program) }
+{
+    translate(alloc, program.program(), program.hosts())
+}

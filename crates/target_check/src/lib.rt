@@ -1,0 +1,11 @@
+//! Is target code well formed?
+#![tactic(auto)]
+
+mod lines;
+mod neighbours;
+mod numbers;
+#[cfg(test)]
+mod tests;
+mod whole;
+
+pub use whole::well_formed;

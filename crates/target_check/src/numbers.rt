@@ -1,0 +1,203 @@
+//! The numbers that a line names.
+ghost use Rattle.std.specs.Prelude.{◌≡◌, ◌<◌, ◌↔◌, ◌++◌, nat_lt, IsTrue, IfSome};
+ghost use Rattle.std.specs.List.{list_all};
+ghost use Rattle.ir_ast.specs.Tokens.{Each};
+ghost use Rattle.target_code.specs.Formed as formed;
+ghost use Rattle.target_code.specs.Formed.{operand_slots, shadow_slots, args_slots, block_named, function_named, NamesKnown};
+
+use target_code::{Line, Operand, Shadow};
+
+fn operand_known(operand: Operand, count: u32) -> bool
+    ensures { result ≡ list_all (λ slot. nat_lt slot count) (operand_slots operand) }
+{
+    match operand {
+        Operand::Slot(slot) => slot < count,
+        Operand::Number(_) => true,
+    }
+}
+
+fn shadow_known(shadow: Shadow, count: u32) -> bool
+    ensures { result ≡ list_all (λ slot. nat_lt slot count) (shadow_slots shadow) }
+{
+    match shadow {
+        Shadow::Slot(slot) => slot < count,
+        Shadow::Nothing => true,
+    }
+}
+
+#[tactic(auto, using(crate::proofs::Parts::all_joined))]
+fn both_known(a: Operand, b: Operand, count: u32) -> bool
+    ensures { result ≡ list_all (λ slot. nat_lt slot count) (operand_slots a ++ operand_slots b) }
+{
+    operand_known(a, count) && operand_known(b, count)
+}
+
+#[tactic(auto, using(crate::proofs::Parts::all_joined))]
+fn shadows_known(a: Shadow, b: Shadow, count: u32) -> bool
+    ensures { result ≡ list_all (λ slot. nat_lt slot count) (shadow_slots a ++ shadow_slots b) }
+{
+    shadow_known(a, count) && shadow_known(b, count)
+}
+
+#[tactic(auto, using(crate::proofs::Parts::all_joined))]
+fn args_known(args: &[Operand], count: u32) -> bool
+    ensures { result ≡ list_all (λ slot. nat_lt slot count) (args_slots args.now) }
+{
+    for arg in args {
+        if !operand_known(*arg, count) {
+            return false;
+        }
+    }
+    true
+}
+
+#[tactic(auto, using(crate::proofs::Parts::all_joined))]
+fn slots_known(line: &Line, count: u32) -> bool
+    ensures { result ≡ list_all (λ slot. nat_lt slot count) (formed.slots line.now) }
+{
+    match line {
+        Line::Turn { .. }
+        | Line::PushFrame
+        | Line::Call { .. }
+        | Line::RetagResult { .. }
+        | Line::Jump { .. }
+        | Line::PopFrame
+        | Line::Return
+        | Line::Unreachable => true,
+        Line::Param { slot, .. }
+        | Line::ShadowParam { shadow: slot, .. }
+        | Line::Const { slot, .. }
+        | Line::Loaded { shadow: slot }
+        | Line::Free { ptr: slot }
+        | Line::TakeArg { slot, .. }
+        | Line::TakeShadowArg { shadow: slot, .. }
+        | Line::CallResult { slot }
+        | Line::ShadowCallResult { shadow: slot }
+        | Line::Spawn { slot, .. }
+        | Line::Join { handle: slot } => *slot < count,
+        Line::Print { value, .. }
+        | Line::Arg { value, .. }
+        | Line::Branch { cond: value }
+        | Line::Result { value } => operand_known(*value, count),
+        Line::Stored { from } | Line::ShadowArg { from, .. } | Line::ShadowResult { from } => {
+            shadow_known(*from, count)
+        }
+        Line::Move { slot, from: other }
+        | Line::CheckRead {
+            ptr: slot,
+            ptr_shadow: other,
+            ..
+        }
+        | Line::Load {
+            slot,
+            ptr: other,
+            ..
+        }
+        | Line::CheckWrite {
+            ptr: slot,
+            ptr_shadow: other,
+            ..
+        }
+        | Line::PtrToInt { slot, ptr: other }
+        | Line::CheckFree {
+            ptr: slot,
+            ptr_shadow: other,
+        } => *slot < count && *other < count,
+        Line::Store {
+            value,
+            ptr: slot,
+            ..
+        }
+        | Line::Cast { slot, value, .. }
+        | Line::Input { slot, index: value } => *slot < count && operand_known(*value, count),
+        Line::ShadowMove { shadow, from } => *shadow < count && shadow_known(*from, count),
+        Line::Make {
+            slot,
+            shadow: other,
+            size: value,
+            ..
+        }
+        | Line::Gep {
+            slot,
+            ptr: other,
+            add: value,
+        }
+        | Line::Modify {
+            slot,
+            ptr: other,
+            value,
+            ..
+        }
+        | Line::Copy {
+            to: slot,
+            from: other,
+            len: value,
+        } => *slot < count && *other < count && operand_known(*value, count),
+        Line::Retag {
+            shadow,
+            ptr,
+            ptr_shadow,
+            ..
+        } => *shadow < count && *ptr < count && *ptr_shadow < count,
+        Line::Binary { slot, a, b, .. } | Line::Compare { slot, a, b, .. } => {
+            *slot < count && both_known(*a, *b, count)
+        }
+        Line::Select {
+            slot,
+            cond,
+            a,
+            b,
+            ..
+        } => *slot < count && operand_known(*cond, count) && both_known(*a, *b, count),
+        Line::ShadowSelect { shadow, cond, a, b } => {
+            *shadow < count && operand_known(*cond, count) && shadows_known(*a, *b, count)
+        }
+        Line::CmpXchg {
+            slot,
+            ptr,
+            expected,
+            value,
+            ..
+        } => *slot < count && *ptr < count && both_known(*expected, *value, count),
+        Line::CheckCopy {
+            to,
+            to_shadow,
+            from,
+            from_shadow,
+            len,
+        } => {
+            *to < count
+                && *to_shadow < count
+                && *from < count
+                && *from_shadow < count
+                && operand_known(*len, count)
+        }
+        Line::Host { slot, args, .. } => *slot < count && args_known(args.as_slice(), count),
+    }
+}
+
+fn block_known(line: &Line, count: usize) -> bool
+    ensures { IsTrue result ↔ IfSome (block_named line.now) (λ block. block < count) }
+{
+    match line {
+        Line::Jump { block } => (*block as usize) < count,
+        _ => true,
+    }
+}
+
+fn function_known(line: &Line, count: usize) -> bool
+    ensures { IsTrue result ↔ IfSome (function_named line.now) (λ function. function < count) }
+{
+    match line {
+        Line::Call { function } | Line::Spawn { function, .. } => (*function as usize) < count,
+        _ => true,
+    }
+}
+
+/// Do the slots, the block and the function that a line names exist?
+#[tactic(auto, using(crate::proofs::Parts::slots_steps))]
+pub fn names_known(line: &Line, slots: u32, blocks: usize, functions: usize) -> bool
+    ensures { IsTrue result ↔ NamesKnown slots blocks functions line.now }
+{
+    slots_known(line, slots) && block_known(line, blocks) && function_known(line, functions)
+}
