@@ -1,0 +1,10 @@
+pub mod Given
+pub mod Finding
+pub mod Sequences
+pub mod Keeping
+pub mod Coming
+pub mod Going
+pub mod Running
+pub mod Leaving
+pub mod Wholes
+pub mod Finishing
