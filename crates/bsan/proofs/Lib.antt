@@ -1,4 +1,4 @@
-pub mod NumberLemmas
-pub mod OneProgram
+pub mod Found
 pub mod Reportable
 pub mod Complete
+pub mod Status

@@ -1,74 +1,106 @@
 -- What the top call answers: what the work found, why, with which text and status, and the record.
-use Rattle.std.specs.Prelude.{◌≡◌, ◌⊎◌, ◌++◌, ◌∷◌, [], ℕ, List, Some, None, codes}
+use Rattle.std.specs.Prelude.{◌≡◌, ◌⊎◌, ◌++◌, ◌∷◌, [], ℕ, List, length, Some, None, codes}
+use Rattle.std.specs.List.{sum_by}
 use Rattle.std.specs.Io.KnownBytes.{Keeps}
+use Rattle.command_words.specs.Jobs.{Job, job_of}
+use Rattle.ir_ast.specs.Programs.{function_instructions}
 use Rattle.ir_ast.specs.declared.program.Program.{Program}
+use Rattle.ir_reader.specs.Readings.{IsProgramOf, Refuses, most_bytes}
+use Rattle.ir_rules.specs.Least.{fault}
+use Rattle.ir_rules.specs.Rules.{IsAccepted, IsFirstBroken}
+use Rattle.ir_verify.specs.declared.refusal.VerifyFault.{VerifyFault}
+use Rattle.ir_verify.specs.declared.refusal.VerifyFault.TheVariants.{Refused, NoMemory}
+use Rattle.instrument.specs.Translation.{translation}
+use Rattle.target_code.specs.Texts.{target_text}
 use Rattle.run_record.specs.Empty.{empty_record}
 use Rattle.run_record.specs.declared.record.RunRecord.{RunRecord}
 use Rattle.report.specs.Report.{text_of, status_of}
-use Rattle.bsan.specs.Words.{Text, file_of}
-use Rattle.bsan.specs.Small.{IsSmall, text_limit}
-use Rattle.bsan.specs.Right.{IsRight}
+use Rattle.small_run.specs.Small.{IsSmall}
+use Rattle.bsan.specs.Words.{Text, file_in, IsCheck, IsInstrument, IsSolo}
 use Rattle.bsan.specs.Seen.{FilesSeen, SinkSeen, Failed, WasTooLong, WasRead, Puts}
+use Rattle.bsan.specs.Lines.{fault_line, rule_line, accepted_line}
+use Rattle.bsan.specs.Runs.{no_hosts, IsRightRun}
 use Rattle.bsan.specs.declared.outcome.Outcome.{Outcome}
-use Rattle.bsan.specs.declared.outcome.Outcome.TheVariants.{Usage, ReadFault, TooLong, NotBuilt, Ran}
+use Rattle.bsan.specs.declared.outcome.Outcome.TheVariants.{Usage, FileFault, TooLong, NotRead, NotVerified, Accepted, Instrumented, NotBuilt, Ran}
 
--- the text is read as this program
-abbrev pub Reads : List ℕ → Program → Type 0
-Reads text program = IsSmall text program
-
--- the text is no program's
-abbrev pub IsNoProgram : List ℕ → Type 0
-IsNoProgram text = (program : Program) → Reads text program → ⊥
+-- what was found is what the verifier told
+abbrev pub IsBrokenRule : VerifyFault → Outcome → Type 0
+IsBrokenRule (Refused rule at) found = found ≡ NotVerified rule at
+IsBrokenRule NoMemory found = ⊥
 
 -- the status of what the work found
 abbrev pub status_for : Outcome → RunRecord → ℕ
 status_for Usage kept = 2
-status_for ReadFault kept = 7
+status_for FileFault kept = 7
 status_for TooLong kept = 7
+status_for (NotRead read_fault) kept = 3
+status_for (NotVerified rule at) kept = 4
+status_for (Accepted functions instructions) kept = 0
+status_for (Instrumented target) kept = 0
 status_for NotBuilt kept = 3
 status_for Ran kept = status_of kept
 
 -- its text
 abbrev pub text_for : Outcome → RunRecord → List ℕ
-text_for Usage kept = codes "usage: bsan solo FILE" ++ 10 ∷ []
-text_for ReadFault kept = codes "read fault: program" ++ 10 ∷ []
+text_for Usage kept = codes "usage: bsan check FILE | instrument FILE | solo FILE" ++ 10 ∷ []
+text_for FileFault kept = codes "read fault: program" ++ 10 ∷ []
 text_for TooLong kept = codes "too long: program" ++ 10 ∷ []
+text_for (NotRead read_fault) kept = fault_line read_fault
+text_for (NotVerified rule at) kept = rule_line rule at
+text_for (Accepted functions instructions) kept = accepted_line functions instructions
+text_for (Instrumented target) kept = target_text target
 text_for NotBuilt kept = codes "not read: NotBuilt" ++ 10 ∷ []
 text_for Ran kept = text_of kept
 
--- the words name a file of which P holds
+-- the words ask for a job, and P holds of its file
 pub record OfFile (words : List Text) (P : Text → Type 0) : Type 0 where
-  pub file : Text
-  pub named : file_of words ≡ Some file
-  pub holds : P file
+  pub job : Job
+  pub asked : job_of words ≡ Some job
+  pub holds : P (file_in job)
 
--- bytes of which P holds were read of the file that the words name
-pub record OfBytes (files : FilesSeen) (words : List Text) (P : List ℕ → Type 0) : Type 0 where
-  pub file : Text
-  pub named : file_of words ≡ Some file
-  pub bytes : List ℕ
-  pub read : WasRead files file text_limit bytes
-  pub holds : P bytes
+-- the words ask for a job, and P holds of it and of the text that was read of its file
+pub record OfText (files : FilesSeen) (words : List Text) (P : Job → List ℕ → Type 0) : Type 0 where
+  pub job : Job
+  pub asked : job_of words ≡ Some job
+  pub text : List ℕ
+  pub read : WasRead files (file_in job) most_bytes text
+  pub holds : P job text
 
--- the text is a program's, and the record is right for it
-pub record RunsRight (kept : RunRecord) (text : List ℕ) : Type 0 where
+-- the text is a program's of which P holds
+pub record OfProgram (P : Program → Type 0) (text : List ℕ) : Type 0 where
   pub program : Program
-  pub reads : Reads text program
-  pub right : IsRight program kept
+  pub reads : IsProgramOf text program
+  pub holds : P program
+
+-- what the job finds in a program, and what record it leaves
+abbrev pub FindsIn : RunRecord → Outcome → Job → Program → Type 0
+FindsIn kept (NotVerified rule at) job program = IsFirstBroken program no_hosts (fault rule at) × (kept ≡ empty_record)
+FindsIn kept (Accepted functions instructions) job program =
+    IsCheck job × IsAccepted program no_hosts × (functions ≡ length program.functions)
+    × (instructions ≡ sum_by function_instructions program.functions) × (kept ≡ empty_record)
+FindsIn kept (Instrumented target) job program =
+    IsInstrument job × IsAccepted program no_hosts × (target ≡ translation no_hosts.entries program) × (kept ≡ empty_record)
+FindsIn kept NotBuilt job program = IsSolo job × IsAccepted program no_hosts × (¬ IsSmall program) × (kept ≡ empty_record)
+FindsIn kept Ran job program = IsSolo job × IsAccepted program no_hosts × IsSmall program × IsRightRun program kept
+FindsIn kept found job program = ⊥
 
 -- why the work found this, and what record it left
 abbrev pub HasCause : FilesSeen → List Text → RunRecord → Outcome → Type 0
-HasCause files words kept Usage = (file_of words ≡ None) × (kept ≡ empty_record)
-HasCause files words kept ReadFault = OfFile words (λ file. Failed files file) × (kept ≡ empty_record)
+HasCause files words kept Usage = (job_of words ≡ None) × (kept ≡ empty_record)
+HasCause files words kept FileFault = OfFile words (λ file. Failed files file) × (kept ≡ empty_record)
 HasCause files words kept TooLong =
-    OfFile words (λ file. WasTooLong files file text_limit) × (kept ≡ empty_record)
-HasCause files words kept NotBuilt = OfBytes files words IsNoProgram × (kept ≡ empty_record)
-HasCause files words kept Ran = OfBytes files words (RunsRight kept)
+    OfFile words (λ file. WasTooLong files file most_bytes) × (kept ≡ empty_record)
+HasCause files words kept (NotRead read_fault) =
+    OfText files words (λ job text. Refuses text read_fault) × (kept ≡ empty_record)
+HasCause files words kept found = OfText files words (λ job text. OfProgram (FindsIn kept found job) text)
+
+-- a run was asked for, the text is a program's, and the record is right for it
+abbrev pub RunsRight : FilesSeen → List Text → RunRecord → Type 0
+RunsRight files words kept = OfText files words (λ job text. OfProgram (FindsIn kept Ran job) text)
 
 -- the record is empty, or right for the program that was read
 abbrev pub IsEmptyOrRight : FilesSeen → List Text → RunRecord → Type 0
-IsEmptyOrRight files words kept =
-    (kept ≡ empty_record) ⊎ OfBytes files words (RunsRight kept)
+IsEmptyOrRight files words kept = (kept ≡ empty_record) ⊎ RunsRight files words kept
 
 -- the work found something, and its text was put
 pub record Told (files : FilesSeen) (sink : SinkSeen) (words : List Text) (kept : RunRecord) (answer : ℕ) : Type 0 where

@@ -1,6 +1,6 @@
-pub mod Small
 pub mod Words
-pub mod Right
 pub mod Seen
+pub mod Lines
+pub mod Runs
 pub mod Answer
 pub mod Causes

@@ -3,51 +3,72 @@ ghost use Rattle.std.specs.Prelude.{◌≡◌, IfOk};
 ghost use Rattle.report.specs.Report.{IsReportable};
 ghost use Rattle.bsan.specs.Answer as answer;
 
+use crate::lines::{accepted_line, fault_line, rule_line};
 use bsan_ids::NoMemory;
+use ir_reader::ReadFault;
+use ir_rules::Rule;
 use report::{status_of, text_of};
 use run_record::RunRecord;
 use std::alloc::Global;
+use target_code::{Target, text};
 
 /// What the work of a call found.
-#[derive(Clone, Copy)]
+#[derive(Drop)]
 pub enum Outcome {
-    /// The words are not taken.
+    /// The words ask for nothing.
     Usage,
     /// A read of the program's file failed.
-    ReadFault,
+    FileFault,
     /// The program's file is longer than the limit.
     TooLong,
     /// The text is no program's.
+    NotRead { fault: ReadFault },
+    /// A rule is broken in the program.
+    NotVerified { rule: Rule, at: u32 },
+    /// The program is accepted, and no run was asked for.
+    Accepted { functions: u32, instructions: u32 },
+    /// The program is accepted, and its target code was made.
+    Instrumented { target: Target },
+    /// The program is accepted, but not small.
     NotBuilt,
     /// The program was run, and its record kept.
     Ran,
 }
 
 /// The status of what was found. After a run it is that of the record.
-pub fn status_for(found: Outcome, kept: &RunRecord) -> u8
-    ensures { result ≡ answer.status_for found kept.now }
+pub fn status_for(found: &Outcome, kept: &RunRecord) -> u8
+    ensures { result ≡ answer.status_for found.now kept.now }
 {
     match found {
         Outcome::Usage => 2,
-        Outcome::ReadFault | Outcome::TooLong => 7,
-        Outcome::NotBuilt => 3,
+        Outcome::FileFault | Outcome::TooLong => 7,
+        Outcome::NotRead { .. } | Outcome::NotBuilt => 3,
+        Outcome::NotVerified { .. } => 4,
+        Outcome::Accepted { .. } | Outcome::Instrumented { .. } => 0,
         Outcome::Ran => status_of(kept),
     }
 }
 
-/// The text of what was found, one line or the report of the record.
+/// The text of what was found: one line, that of the target code, or the report of the record.
 ///
 /// # Errors
 ///
 /// `NoMemory`: want of memory.
-pub fn text_for(alloc: Global, found: Outcome, kept: &RunRecord) -> Result<Vec<u8>, NoMemory>
-    requires { found ≡ Outcome.Ran → IsReportable kept.now }
-    ensures { IfOk result (λ text. text.items ≡ answer.text_for found kept.now) }
+pub fn text_for(alloc: Global, found: &Outcome, kept: &RunRecord) -> Result<Vec<u8>, NoMemory>
+    requires { found.now ≡ Outcome.Ran → IsReportable kept.now }
+    ensures { IfOk result (λ text. text.items ≡ answer.text_for found.now kept.now) }
 {
     let line = match found {
-        Outcome::Usage => "usage: bsan solo FILE\n",
-        Outcome::ReadFault => "read fault: program\n",
+        Outcome::Usage => "usage: bsan check FILE | instrument FILE | solo FILE\n",
+        Outcome::FileFault => "read fault: program\n",
         Outcome::TooLong => "too long: program\n",
+        Outcome::NotRead { fault } => return fault_line(alloc, *fault),
+        Outcome::NotVerified { rule, at } => return rule_line(alloc, *rule, *at),
+        Outcome::Accepted {
+            functions,
+            instructions,
+        } => return accepted_line(alloc, *functions, *instructions),
+        Outcome::Instrumented { target } => return text(alloc, target),
         Outcome::NotBuilt => "not read: NotBuilt\n",
         Outcome::Ran => return text_of(alloc, kept),
     };

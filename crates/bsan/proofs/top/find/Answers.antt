@@ -1,14 +1,9 @@
 use Rattle.std.proofs.Common.{rules}
+use Rattle.command_words.specs.Meaning.{job_meant}
+use Rattle.bsan.proofs.Found.{refused_in_text}
 use Rattle.bsan.proofs.top.find.Goals as goal
 
-pub returns-in-Err-NotBuilt : goal.returns-in-Err-NotBuilt
-returns-in-Err-NotBuilt g c = (
-  record {
-    file = c.in-Some.file.now;
-    named = search rules;
-    bytes = c.as_slice.result.now;
-    read = search rules;
-    holds = c.read_small.ensures.not_built cc;
-  },
-  search rules,
-)
+pub returns : goal.returns
+returns g c =
+    refused_in_text _ _ _ (job_meant c.in-Ok.job) c.as_slice.result.now _ _ (search rules) (search rules)
+    c.in-Err.ensures.refused (search rules) c.unread.ensures.found c.unread.ensures.refused
