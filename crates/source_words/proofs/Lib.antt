@@ -1,0 +1,10 @@
+pub mod Words
+pub mod Registers
+pub mod Operations
+pub mod Keeping
+pub mod Every
+pub mod Numbers
+pub mod Deciding
+pub mod Accepting
+pub mod Bytes
+pub mod Worlds

@@ -1,0 +1,4 @@
+pub mod Typing
+pub mod Invariant
+pub mod Allocations
+pub mod Worlds

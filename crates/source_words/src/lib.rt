@@ -1,0 +1,4 @@
+//! Words of their types, in every thread of an accepted program.
+#![tactic(auto)]
+
+pub mod laws;
