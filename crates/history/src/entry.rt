@@ -284,6 +284,23 @@ impl Plain {
     }
 }
 
+impl Reply {
+    /// The same reply once more, with memory of its own.
+    ///
+    /// # Errors
+    ///
+    /// `NoMemory`: want of memory.
+    pub fn copy(&self) -> Result<Reply, NoMemory>
+        ensures { IfOk result (λ reply. reply ≡ self.now) }
+    {
+        Ok(Reply {
+            plain: self.plain.copy()?,
+            carried: self.carried,
+            verdict: self.verdict,
+        })
+    }
+}
+
 impl Entry {
     /// The same entry once more, with memory of its own.
     ///
@@ -299,11 +316,7 @@ impl Entry {
             site: self.site,
             alloc: self.alloc,
             request: self.request.copy()?,
-            reply: Reply {
-                plain: self.reply.plain.copy()?,
-                carried: self.reply.carried,
-                verdict: self.reply.verdict,
-            },
+            reply: self.reply.copy()?,
         })
     }
 }
