@@ -4,7 +4,7 @@ use Rattle.std.specs.Option.{option_and_then}
 use Rattle.bsan_ids.specs.declared.numbers.Tag.{Tag}
 use Rattle.bsan_ids.specs.declared.numbers.Span.{Span}
 use Rattle.perm_table.specs.declared.Perm.{Perm}
-use Rattle.perm_table.specs.declared.Perm.TheVariants.{Unique, Disabled}
+use Rattle.perm_table.specs.declared.Perm.TheVariants as perm
 use Rattle.perm_table.specs.declared.Guard.{Guard}
 use Rattle.perm_table.specs.declared.Guard.TheVariants.{Free, Weak, Strong}
 use Rattle.perm_table.specs.declared.Kind.{Kind}
@@ -48,8 +48,9 @@ retag t parent span kind guard tag =
     with_node (new_node t.size parent span kind guard tag) (access t parent span Read)
 
 abbrev pub kind_by : Perm → Option Kind
-kind_by Unique = Some Write
-kind_by Disabled = None
+kind_by perm.Unique = Some Write
+kind_by perm.Disabled = None
+kind_by perm.Cell = None
 kind_by _ = Some Read
 
 -- the access that a protector's end makes at a byte, by the state of its node there

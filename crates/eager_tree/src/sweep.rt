@@ -84,7 +84,7 @@ fn at_end(cell: Cell) -> Option<Kind>
     match cell.perm {
         _ if !cell.accessed => None,
         Perm::Unique => Some(Kind::Write),
-        Perm::Disabled => None,
+        Perm::Disabled | Perm::Cell => None,
         Perm::Reserved | Perm::Conflicted | Perm::CellReserved | Perm::Frozen => Some(Kind::Read),
     }
 }

@@ -105,7 +105,7 @@ fn ends_in(
 fn steps_have_their_answers(rt: HostRuntime) -> Result<(), Fail> {
     use Guard::{Free, Strong, Weak};
     use Perm::{Conflicted, Disabled, Frozen, Reserved, Unique};
-    use RetagKind::{Boxed, Cell, Mut, Shr};
+    use RetagKind::{Boxed, Cell, Mut, Shr, ShrCell};
     let alloc = rt.alloc();
     // a write after the parent's read, and through a shared pointer
     ends_in(
@@ -173,6 +173,36 @@ fn steps_have_their_answers(rt: HostRuntime) -> Result<(), Fail> {
         8,
         &[retag(Cell, Free), write(1), read(2), Step::Free(1)],
         None,
+    )?;
+    // two pointers to shared cells, protected and not, and a shared pointer beside one
+    ends_in(
+        &rt,
+        alloc,
+        8,
+        &[
+            retag(ShrCell, Weak),
+            write(1),
+            write(2),
+            Step::EndProtector(2),
+            Step::Retag(1, LOW, ShrCell, Free, 3),
+            write(2),
+            read(3),
+            write(1),
+            write(3),
+        ],
+        None,
+    )?;
+    ends_in(
+        &rt,
+        alloc,
+        8,
+        &[
+            retag(ShrCell, Free),
+            Step::Retag(1, LOW, Shr, Free, 3),
+            write(2),
+            read(3),
+        ],
+        denied(0, 3, Disabled, true),
     )?;
     // a free beside a weak guard, and beside a strong one
     ends_in(&rt, alloc, 8, &[retag(Boxed, Weak), Step::Free(2)], None)?;

@@ -1,5 +1,6 @@
 //! The pass over verified programs.
 ghost use Rattle.std.specs.Prelude.{◌≡◌, IfOk};
+ghost use Rattle.target_code.specs.Formed.{IsWellFormed};
 ghost use Rattle.instrument.specs.Translation.{translation};
 
 use crate::functions::translate;
@@ -13,7 +14,8 @@ use target_code::Target;
 /// # Errors
 /// Only where memory is wanting.
 pub fn instrument(alloc: Global, program: &Verified) -> Result<Target, NoMemory>
-    ensures { IfOk result (λ target. target ≡ translation program.now.hosts.entries program.now.program) }
+    ensures translated { IfOk result (λ target. target ≡ translation program.now.hosts.entries program.now.program) }
+    ensures formed { IfOk result IsWellFormed }
 {
     translate(alloc, program.program(), program.hosts())
 }

@@ -148,8 +148,8 @@ text_inst a b c d e f i p q r s t = text_line a b e f (inst_line 0 0 i) p (adds_
 pub text_label : (a b c d e f : Writer) (block : Block) → Begins a b [] → Adds b c (word block.label.name ∷ []) → Adds c d (forms (block_params 0 block.params)) → Adds d e (colon ∷ []) → AddsText e f (codes "\n") → AddsText a f (line_text (label_line 0 block))
 text_label a b c d e f block p q r s t = text_line a b e f (label_line 0 block) p (adds_around b c d e (word block.label.name) (block_params 0 block.params) (plain colon) q r s) t
 
-pub text_first : (a b c d e : Writer) → Begins a b [] → Adds b c (word (codes "bir") ∷ []) → Adds c d (number 1 ∷ []) → AddsText d e (codes "\n") → AddsText a e (line_text first_line)
-text_first a b c d e p q r s = text_line a b d e first_line p (adds_next b c d (word (codes "bir")) (number 1 ∷ []) q r) s
+pub text_first : (a b c d e : Writer) (version : ℕ) → Begins a b [] → Adds b c (word (codes "bir") ∷ []) → Adds c d (number version ∷ []) → AddsText d e (codes "\n") → AddsText a e (line_text (first_line version))
+text_first a b c d e version p q r s = text_line a b d e (first_line version) p (adds_next b c d (word (codes "bir")) (number version ∷ []) q r) s
 
 pub text_header : (a b c d : Writer) (f : Function) → Begins a b [] → Adds b c (forms (header_line 0 f).tokens) → AddsText c d (codes "\n") → AddsText a d (line_text (header_line 0 f))
 text_header a b c d f p q r = text_line a b c d (header_line 0 f) p q r

@@ -73,12 +73,12 @@ functions_same k n (f ∷ fs) =
     ∙ ap (λ (z : List ℕ). z ++ flat_map line_text (functions_lines (suc k) (n + sum_by block_instructions f.blocks) fs)) (function_same k n f)
     ∙ ap (λ (z : List ℕ). function_text f ++ z) (functions_same (suc k) (n + sum_by block_instructions f.blocks) fs)
 
-pub canonical_parts : (p : Program) → canonical p ≡ line_text first_line ++ flat_map function_text p.functions
-canonical_parts p = ap (λ (z : List ℕ). line_text first_line ++ z) (functions_same 0 0 p.functions)
+pub canonical_parts : (p : Program) → canonical p ≡ line_text (first_line p.version) ++ flat_map function_text p.functions
+canonical_parts p = ap (λ (z : List ℕ). line_text (first_line p.version) ++ z) (functions_same 0 0 p.functions)
 
 -- what is written line by line into an empty text
-pub printed : (a b c : Writer) (p : Program) → a.text.items ≡ [] → AddsText a b (line_text first_line) → AddsText b c (flat_map function_text p.functions) → c.text.items ≡ canonical p
+pub printed : (a b c : Writer) (p : Program) → a.text.items ≡ [] → AddsText a b (line_text (first_line p.version)) → AddsText b c (flat_map function_text p.functions) → c.text.items ≡ canonical p
 printed a b c p e h k =
-    (text_both a b c (line_text first_line) (flat_map function_text p.functions) h k).is
-    ∙ ap (λ (z : List ℕ). z ++ (line_text first_line ++ flat_map function_text p.functions)) e
+    (text_both a b c (line_text (first_line p.version)) (flat_map function_text p.functions) h k).is
+    ∙ ap (λ (z : List ℕ). z ++ (line_text (first_line p.version) ++ flat_map function_text p.functions)) e
     ∙ sym (canonical_parts p)

@@ -204,5 +204,5 @@ lines_cut full (line ∷ lines) at here h k =
 
 pub canonical_is_cut : (p : Program) → IsProgram p → IsCut (canonical p) (forms (spell p))
 canonical_is_cut p h =
-    let c = lines_cut (canonical p) (program_lines p) 0 refl (program_fair p) h.spelled in
+    let c = lines_cut (canonical p) (program_lines p) 0 refl (program_fair p h.shaped) h.spelled in
     record { tokens = c.tokens; lexed = c.lexed; are = c.are }

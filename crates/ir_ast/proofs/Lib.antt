@@ -4,3 +4,4 @@ pub mod Placed
 pub mod Small
 pub mod Cut
 pub mod Limits
+pub mod Single

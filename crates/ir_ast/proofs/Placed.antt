@@ -205,7 +205,7 @@ function_same f =
 without_same : (p : Program) → canonical (without_places p) ≡ canonical p
 without_same p =
     canonical_parts (without_places p)
-    ∙ ap (λ (z : List ℕ). line_text first_line ++ z) (flat_same function_text function_without p.functions function_same)
+    ∙ ap (λ (z : List ℕ). line_text (first_line p.version) ++ z) (flat_same function_text function_without p.functions function_same)
     ∙ sym (canonical_parts p)
 
 pub one_text : (p q : Program) → SameUpToPlaces p q → canonical p ≡ canonical q

@@ -8,6 +8,7 @@ use Rattle.ir_ast.specs.Tokens.{Form, Asked, Each, Limit, plain, below, amount}
 use Rattle.ir_ast.specs.Tokens.Limit.{of_number}
 use Rattle.ir_ast.specs.Tokens.Form.{number, close_round, open_brace, close_brace, comma, colon, arrow}
 use Rattle.ir_ast.specs.Grammar.{numbers_of, val_token, typed_tokens, next_tokens, values_tokens, args_tokens, goal_args_tokens, goal_tokens, op_tokens, ret_tokens, jump_tokens}
+use Rattle.ir_ast.specs.Shapes.{IsVersion, IsShaped}
 use Rattle.ir_ast.specs.Lines.{Line, attr_tokens, result_tokens, param_register, param_tokens, next_params, params_tokens, block_params, inst_tokens, definitions, inst_lines, term_line, label_line, block_lines, block_instructions, block_registers, blocks_lines, header_line, function_lines, functions_lines, outer, program_lines}
 use Rattle.ir_ast.specs.declared.types.Width.{Width}
 use Rattle.ir_ast.specs.declared.types.Width.TheVariants.{W8, W16, W32, W64}
@@ -186,8 +187,8 @@ functions_fair k n (f ∷ fs) =
     each_join FairLine (function_lines k n f) (functions_lines (suc k) (n + sum_by block_instructions f.blocks) fs)
     (function_fair k n f) (functions_fair (suc k) (n + sum_by block_instructions f.blocks) fs)
 
-small_one : {A : Type 0} → A → 1 < 2 ^ 64
-small_one x = lit< tt
+small_version : (version : ℕ) → IsVersion version → {A : Type 0} → A → version < 2 ^ 64
+small_version version h x = let le : version ≤ 2 = h.1 in omega arith
 
-pub program_fair : (p : Program) → Each FairLine (program_lines p)
-program_fair p = ((free, (small_one, tt)), functions_fair 0 0 p.functions)
+pub program_fair : (p : Program) → IsShaped p → Each FairLine (program_lines p)
+program_fair p h = ((free, (small_version p.version h.version, tt)), functions_fair 0 0 p.functions)

@@ -1,7 +1,7 @@
 -- The words of types, of kinds of retags and of operations.
 use Rattle.std.specs.Prelude.{ℕ, List, codes, Option, Some, None}
 use Rattle.perm_table.specs.declared.RetagKind.{RetagKind}
-use Rattle.perm_table.specs.declared.RetagKind.TheVariants.{Mut, Cell, Shr, Boxed}
+use Rattle.perm_table.specs.declared.RetagKind.TheVariants.{Mut, Cell, Shr, Boxed, ShrCell}
 use Rattle.ir_ast.specs.declared.types.Width.{Width}
 use Rattle.ir_ast.specs.declared.types.Width.TheVariants.{W8, W16, W32, W64}
 use Rattle.ir_ast.specs.declared.types.Ty.{Ty}
@@ -37,6 +37,7 @@ kind_word Mut = codes "mut"
 kind_word Cell = codes "cell"
 kind_word Shr = codes "shr"
 kind_word Boxed = codes "box"
+kind_word ShrCell = codes "shrcell"
 
 abbrev pub binary_word : BinaryOp → List ℕ
 binary_word binary.Add = codes "add"

@@ -137,11 +137,11 @@ functions_lines functions instructions [] = []
 functions_lines functions instructions (f ∷ fs) =
     function_lines functions instructions f ++ functions_lines (suc functions) (instructions + sum_by block_instructions f.blocks) fs
 
-abbrev pub first_line : Line
-first_line = outer (keyword (codes "bir") ∷ plain (number 1) ∷ [])
+abbrev pub first_line : ℕ → Line
+first_line version = outer (keyword (codes "bir") ∷ plain (number version) ∷ [])
 
 abbrev pub program_lines : Program → List Line
-program_lines p = first_line ∷ functions_lines 0 0 p.functions
+program_lines p = first_line p.version ∷ functions_lines 0 0 p.functions
 
 -- all tokens of a program
 abbrev pub spell : Program → List Asked

@@ -77,7 +77,7 @@ function_without f = record { name = named_without f.name; params = map param_wi
 
 -- the program with 0 for each place and for its length
 abbrev pub without_places : Program → Program
-without_places p = record { functions = map function_without p.functions; «end» = 0 }
+without_places p = record { version = p.version; functions = map function_without p.functions; «end» = 0 }
 
 abbrev pub SameUpToPlaces : Program → Program → Type 0
 SameUpToPlaces p q = without_places p ≡ without_places q

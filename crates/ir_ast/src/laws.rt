@@ -23,3 +23,8 @@ pub fn canonical_is_cut()
 pub fn keeps_limits()
     ensures { (p : Program) → IsProgram p → KeepsLimits p }
 {}
+
+/// That a program is one that the grammar can give has one proof at most, so a type can keep it.
+pub fn one_proof()
+    ensures { (p : Program) (a b : IsProgram p) → a ≡ b }
+{}

@@ -498,12 +498,12 @@ fn write_functions(to: &mut Writer, functions: &[Function]) -> Result<(), NoMemo
 }
 
 #[tactic(auto, using(crate::proofs::Adds::line_steps))]
-fn write_first_line(to: &mut Writer) -> Result<(), NoMemory>
-    ensures { OnOk result (AddsText to.old to.new (line_text first_line)) }
+fn write_first_line(to: &mut Writer, version: u8) -> Result<(), NoMemory>
+    ensures { OnOk result (AddsText to.old to.new (line_text (first_line version))) }
 {
     to.begin(b"")?;
     to.word(b"bir")?;
-    to.number(1)?;
+    to.number(u64::from(version))?;
     to.end()
 }
 
@@ -515,7 +515,7 @@ pub fn print(alloc: Global, program: &Program) -> Result<Vec<u8>, NoMemory>
     ensures { IfOk result (λ text. text.items ≡ canonical program.now) }
 {
     let mut to = Writer::new(alloc);
-    write_first_line(&mut to)?;
+    write_first_line(&mut to, program.version)?;
     write_functions(&mut to, program.functions.as_slice())?;
     Ok(to.into_text())
 }

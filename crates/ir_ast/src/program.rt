@@ -40,9 +40,10 @@ pub struct Goal {
     pub args: ListOf<TypedVal>,
 }
 
-/// A program. `end` is the length of its text.
+/// A program: the version of the language in which it is written, 1 or 2, its functions, and the length of its text.
 #[derive(Drop)]
 pub struct Program {
+    pub version: u8,
     pub functions: ListOf<Function>,
     pub end: u32,
 }

@@ -49,6 +49,7 @@ pub fn kind_word(kind: RetagKind) -> &'static str
         RetagKind::Cell => "cell",
         RetagKind::Shr => "shr",
         RetagKind::Boxed => "box",
+        RetagKind::ShrCell => "shrcell",
     }
 }
 

@@ -1,7 +1,8 @@
 //! A verified program.
 ghost use Rattle.std.specs.Prelude.{◌≡◌, ◌<◌, ◌^◌, length};
 ghost use Rattle.std.specs.List.{sum_by};
-ghost use Rattle.ir_ast.specs.Programs.{IsProgram, function_instructions};
+ghost use Rattle.ir_ast.specs.Programs.{IsProgram, KeepsLimits, function_instructions};
+ghost use Rattle.ir_ast.proofs.Single.{program_prop};
 ghost use Rattle.ir_rules.specs.Rules.{IsAccepted};
 
 use ir_ast::{HostTable, Program};
@@ -13,7 +14,7 @@ pub struct Verified {
     pub(crate) hosts: HostTable,
     pub(crate) functions: u32,
     pub(crate) instructions: u32,
-    pub ghost is_program: { ∥ IsProgram program ∥₁ },
+    pub ghost is_program: { IsProgram program } by { program_prop program },
     pub ghost few_hosts: { length hosts.entries < 2 ^ 32 },
     pub ghost accepted: { IsAccepted program hosts },
     pub ghost function_number: { functions ≡ length program.functions },
@@ -24,6 +25,8 @@ impl Verified {
     /// The program.
     pub fn program(&self) -> &Program
         ensures value { result.now ≡ self.now.program }
+        ensures is_program { IsProgram result.now }
+        ensures limits { KeepsLimits result.now }
         ensures accepted { IsAccepted result.now self.now.hosts }
     {
         &self.program

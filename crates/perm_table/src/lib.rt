@@ -23,6 +23,8 @@ pub enum Perm {
     Frozen,
     /// May be neither read nor written, for good.
     Disabled,
+    /// May be read and written, and no access changes it.
+    Cell,
 }
 
 /// What guards a node while the function runs that was handed its pointer.
@@ -57,6 +59,8 @@ pub enum RetagKind {
     Shr,
     /// An owning pointer (`Box`).
     Boxed,
+    /// A shared reference to data with interior mutability.
+    ShrCell,
 }
 
 /// What an access makes of one node's state at one byte.

@@ -44,6 +44,7 @@ pub fn start(kind: RetagKind, guard: Guard) -> Perm
         RetagKind::Cell => Perm::CellReserved,
         RetagKind::Shr => Perm::Frozen,
         RetagKind::Mut | RetagKind::Boxed => Perm::Reserved,
+        RetagKind::ShrCell => Perm::Cell,
     }
 }
 
@@ -64,7 +65,7 @@ fn local_next(perm: Perm, guard: Guard, kind: Kind) -> Option<Perm>
 {
     match (kind, perm) {
         (_, Perm::Disabled) | (Kind::Write, Perm::Frozen) => None,
-        (Kind::Read, _) => Some(perm),
+        (Kind::Read, _) | (Kind::Write, Perm::Cell) => Some(perm),
         (Kind::Write, Perm::Conflicted) if guard.protects() => None,
         (Kind::Write, _) => Some(Perm::Unique),
     }
@@ -78,7 +79,7 @@ fn foreign_next(perm: Perm, guard: Guard, kind: Kind) -> Perm
         (Kind::Read, Perm::Reserved) if guard.protects() => Perm::Conflicted,
         (Kind::Read, Perm::Unique) if guard.protects() => Perm::Disabled,
         (Kind::Read, Perm::Unique) => Perm::Frozen,
-        (Kind::Read, _) | (Kind::Write, Perm::CellReserved) => perm,
+        (Kind::Read, _) | (Kind::Write, Perm::CellReserved | Perm::Cell) => perm,
         (Kind::Write, _) => Perm::Disabled,
     }
 }
