@@ -21,7 +21,8 @@ use Rattle.ir_ast.specs.Tokens.{Form, Asked, Each, forms}
 use Rattle.ir_ast.specs.Tokens.Form.{word, local, global, number, open_round, close_round, open_brace, close_brace, comma, colon, equals, arrow}
 use Rattle.ir_ast.specs.Lines.{Line, program_lines, spell}
 use Rattle.ir_ast.specs.Texts.{form_text, hugs, opens, space, spaced, line_text, canonical}
-use Rattle.ir_ast.specs.Programs.{IsWord, IsPossible, CanStand, IsProgram}
+use Rattle.ir_ast.specs.Programs.{IsPossible, CanStand, IsProgram}
+use Rattle.ir_ast.specs.Writable.{IsWord}
 use Rattle.ir_ast.specs.Lexes.{form_of, lex, IsCut}
 use Rattle.ir_ast.proofs.Adds.{forms-join}
 use Rattle.ir_ast.proofs.Small.{IsSmall, Fair, FairLine, each_parts, program_fair}

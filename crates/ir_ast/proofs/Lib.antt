@@ -5,3 +5,4 @@ pub mod Small
 pub mod Cut
 pub mod Limits
 pub mod Single
+pub mod Writable

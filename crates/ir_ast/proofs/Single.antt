@@ -10,7 +10,8 @@ use Rattle.ir_ast.specs.Tokens.{Form, Asked, Each, Limit}
 use Rattle.ir_ast.specs.Tokens.Form.{word, local, global}
 use Rattle.ir_ast.specs.Lines.{spell}
 use Rattle.ir_ast.specs.Shapes.{HasKind, IsVal, IsTyped, IsGoal, IsOp, HasType, Defines, StandsAlone, FitsDestination, IsInst, IsJump, FitsAttr, IsParam, IsBlockParam, IsResult, IsBlock, IsFunction, IsShaped}
-use Rattle.ir_ast.specs.Programs.{IsWord, IsName, IsPossible, CanStand, IsProgram}
+use Rattle.ir_ast.specs.Programs.{IsPossible, CanStand, IsProgram}
+use Rattle.ir_ast.specs.Writable.{IsWord, IsName}
 use Rattle.ir_ast.specs.declared.types.Width.TheVariants.{W8, W64}
 use Rattle.ir_ast.specs.declared.types.Ty.{Ty}
 use Rattle.ir_ast.specs.declared.types.Ty.TheVariants.{Int, Ptr}

@@ -40,7 +40,7 @@ Fair a = a.fault ≡ None → IsSmall a.form
 abbrev pub FairLine : Line → Type 0
 FairLine l = Each Fair l.tokens
 
-each_join : {A : Type 0} (P : A → Type 0) (xs ys : List A) → Each P xs → Each P ys → Each P (xs ++ ys)
+pub each_join : {A : Type 0} (P : A → Type 0) (xs ys : List A) → Each P xs → Each P ys → Each P (xs ++ ys)
 each_join P [] ys h k = k
 each_join P (x ∷ xs) ys h k = (h.0, each_join P xs ys h.1 k)
 

@@ -7,7 +7,10 @@ pub mod Shapes
 pub mod Lines
 pub mod Texts
 pub mod Written
+pub mod Writable
 pub mod Programs
+pub mod Numbers
+pub mod Attributes
 pub mod Places
 pub mod Lexes
 pub mod Arithmetic

@@ -1,22 +1,13 @@
 -- The programs that the grammar can give, places aside.
-use Rattle.std.specs.Prelude.{◌≡◌, ℕ, ◌+◌, ◌<◌, ◌≤◌, true, List, [], ◌∷◌, length, None}
-use Rattle.std.specs.List.{list_all, sum_by}
-use Rattle.ir_text.specs.Bytes.{is_start, is_name}
+use Rattle.std.specs.Prelude.{◌≡◌, ℕ, ◌+◌, ◌≤◌, length, None}
+use Rattle.std.specs.List.{sum_by}
 use Rattle.ir_ast.specs.Tokens.{Form, Asked, Each}
 use Rattle.ir_ast.specs.Tokens.Form.{word, local, global}
 use Rattle.ir_ast.specs.Lines.{most_functions, most_instructions, most_registers, block_instructions, block_registers, spell}
 use Rattle.ir_ast.specs.Shapes.{IsShaped}
+use Rattle.ir_ast.specs.Writable.{IsWord, IsName}
 use Rattle.ir_ast.specs.declared.program.Function.{Function}
 use Rattle.ir_ast.specs.declared.program.Program.{Program}
-
--- a letter or `_`, and then letters, digits, `_` and `.`
-abbrev pub IsWord : List ℕ → Type 0
-IsWord [] = ⊥
-IsWord (b ∷ bs) = (is_start b ≡ true) × (list_all is_name bs ≡ true)
-
--- one or more letters, digits, `_` and `.`
-abbrev pub IsName : List ℕ → Type 0
-IsName name = (0 < length name) × (list_all is_name name ≡ true)
 
 -- a text can have such a token
 abbrev pub IsPossible : Form → Type 0

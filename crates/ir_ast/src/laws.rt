@@ -3,6 +3,8 @@ ghost use Rattle.std.specs.Prelude.{◌≡◌};
 ghost use Rattle.ir_ast.specs.Tokens.{forms};
 ghost use Rattle.ir_ast.specs.Lines.{spell};
 ghost use Rattle.ir_ast.specs.Texts.{canonical};
+ghost use Rattle.ir_ast.specs.Shapes.{IsShaped};
+ghost use Rattle.ir_ast.specs.Writable.{IsWritable};
 ghost use Rattle.ir_ast.specs.Programs.{IsProgram, KeepsLimits};
 ghost use Rattle.ir_ast.specs.Places.{SameUpToPlaces};
 ghost use Rattle.ir_ast.specs.Lexes.{IsCut};
@@ -22,6 +24,12 @@ pub fn canonical_is_cut()
 /// A program that the grammar can give keeps the limits on functions, instructions and registers.
 pub fn keeps_limits()
     ensures { (p : Program) → IsProgram p → KeepsLimits p }
+{}
+
+/// A program is one that the grammar can give where its parts stand as the grammar has them, its
+/// names and numbers can stand in a text, and it keeps the limits.
+pub fn given_by_parts()
+    ensures { (p : Program) → IsShaped p → IsWritable p → KeepsLimits p → IsProgram p }
 {}
 
 /// That a program is one that the grammar can give has one proof at most, so a type can keep it.
