@@ -6,7 +6,7 @@ mod list_of;
 mod numbers;
 
 pub use addresses::{address, parts};
-pub use list_of::ListOf;
+pub use list_of::{Copied, ListOf};
 pub use numbers::{
     AllocNo, Counters, Frag, Limits, Name, NoMemory, Prov, Span, Stamp, Tag, ThreadNo,
 };

@@ -23,6 +23,17 @@ impl<T> Model for ListOf<T> {
     ghost view = { λ list. list.items.items };
 }
 
+/// A value whose contents may be refused a copy.
+pub trait Copied: Sized {
+    /// The same value once more, with memory of its own.
+    ///
+    /// # Errors
+    ///
+    /// `NoMemory`: want of memory.
+    fn copy(&self) -> Result<Self, NoMemory>
+        ensures { IfOk result (λ value. value ≡ self.now) };
+}
+
 impl<T> ListOf<T> {
     pub fn new(alloc: Global) -> ListOf<T>
         ensures { result ≡ [] }
@@ -96,6 +107,24 @@ impl<T: Drop> ListOf<T> {
         ensures { self.new ≡ [] }
     {
         self.items.clear();
+    }
+}
+
+impl<T: Copied + Drop> ListOf<T> {
+    /// The same items once more, each with memory of its own.
+    ///
+    /// # Errors
+    ///
+    /// `NoMemory`: want of memory.
+    pub fn copy_each(&self) -> Result<ListOf<T>, NoMemory>
+        ensures { IfOk result (λ list. list ≡ self.now) }
+    {
+        let mut copies = ListOf::new(*self.items.allocator());
+        let items = self.items.as_slice();
+        for item in items {
+            copies.push(item.copy()?)?;
+        }
+        Ok(copies)
     }
 }
 

@@ -2,6 +2,7 @@
 //! tokens each of them is written with; and their canonical text.
 #![tactic(auto)]
 
+mod copies;
 mod hosts;
 mod laws;
 mod operators;
