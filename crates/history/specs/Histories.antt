@@ -5,15 +5,12 @@ use Rattle.history.specs.declared.entry.Entry.{Entry}
 use Rattle.history.specs.declared.entry.Request.{Request}
 use Rattle.history.specs.declared.entry.Request.TheVariants.{Make, Store, Modify, CmpXchg, CopyOut, CopyIn, Retag, Print, Host, Spawn, Join}
 use Rattle.ir_ast.specs.Words.{modulus, ty_bytes}
+use Rattle.ir_ast.specs.Sizes.{most_size}
 use Rattle.history.specs.Objects.{Object, unmade, answer}
-
--- the most bytes of an allocation
-abbrev pub greatest : ℕ
-greatest = 1048576
 
 -- a request that an allocation can be asked
 abbrev pub fits : Request → Bool
-fits (Make size place) = nat_le 1 size && nat_le size greatest
+fits (Make size place) = nat_le 1 size && nat_le size most_size
 fits (Store at ty value carried prov) = nat_lt value (2 ^ (8 * ty_bytes ty))
 fits (Modify at width op value prov) = nat_lt value (modulus width)
 fits (CmpXchg at width expected value prov) = nat_lt expected (modulus width) && nat_lt value (modulus width)

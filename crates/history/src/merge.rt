@@ -5,12 +5,7 @@ ghost use Rattle.history.specs.Merge.{CanMerge, IsMerge, by_stamp};
 use crate::entry::Entry;
 use bsan_ids::NoMemory;
 
-/// Appends copies of these entries.
-///
-/// # Errors
-///
-/// `NoMemory`: want of memory; then only some of them are appended.
-pub fn append_copies(entries: &[Entry], into: &mut Vec<Entry>) -> Result<(), NoMemory>
+fn push_copies(into: &mut Vec<Entry>, entries: &[Entry]) -> Result<(), NoMemory>
     ensures grown { OnOk result (into.new.items ≡ into.old.items ++ entries.now) }
     ensures kept { take (vec_len into.old) into.new.items ≡ into.old.items }
 {
@@ -18,6 +13,23 @@ pub fn append_copies(entries: &[Entry], into: &mut Vec<Entry>) -> Result<(), NoM
         into.push(entry.copy()?)?;
     }
     Ok(())
+}
+
+/// Appends copies of these entries.
+///
+/// # Errors
+///
+/// `NoMemory`: want of memory; then `into` is as before.
+pub fn append_copies(into: &mut Vec<Entry>, entries: &[Entry]) -> Result<(), NoMemory>
+    ensures grown { OnOk result (into.new.items ≡ into.old.items ++ entries.now) }
+    ensures kept { OnErr result (into.new.items ≡ into.old.items) }
+{
+    let before = into.len();
+    let pushed = push_copies(into, entries);
+    if pushed.is_err() {
+        into.truncate(before);
+    }
+    pushed
 }
 
 /// Puts the entries in the order of their stamps.
@@ -31,14 +43,6 @@ pub fn sort_by_stamp(entries: &mut Vec<Entry>) -> Result<(), NoMemory>
 {
     entries.sort_by_key(|entry| entry.stamp.0)?;
     Ok(())
-}
-
-fn append_and_sort(into: &mut Vec<Entry>, more: &[Entry]) -> Result<(), NoMemory>
-    ensures merged { OnOk result (into.new.items ≡ by_stamp (into.old.items ++ more.now)) }
-    ensures kept { OnErr result (take (vec_len into.old) into.new.items ≡ into.old.items) }
-{
-    append_copies(more, into)?;
-    sort_by_stamp(into)
 }
 
 /// Merges copies of `more` into the entries. Both lists are in the order of their stamps, and have
@@ -55,9 +59,10 @@ pub fn merge_by_stamp(into: &mut Vec<Entry>, more: &[Entry]) -> Result<(), NoMem
     ensures kept { OnErr result (into.new.items ≡ into.old.items) }
 {
     let len = into.len();
-    let merged = append_and_sort(into, more);
-    if merged.is_err() {
+    append_copies(into, more)?;
+    let sorted = sort_by_stamp(into);
+    if sorted.is_err() {
         into.truncate(len);
     }
-    merged
+    sorted
 }

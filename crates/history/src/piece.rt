@@ -127,7 +127,8 @@ impl Piece {
 
     /// How many bytes it has.
     pub fn len(&self) -> usize
-        ensures { result ≡ length self.now }
+        ensures value { result ≡ length self.now }
+        ensures few { result ≤ 32 }
     {
         self.bytes.len()
     }
@@ -136,7 +137,8 @@ impl Piece {
     #[tactic(auto, using(crate::proofs::Indexed::pair_at, crate::proofs::Indexed::length_pairs))]
     pub fn get(&self, at: usize) -> (u8, Option<Frag>)
         requires { at < length self.now }
-        ensures { slice_get self.now at ≡ Some result }
+        ensures value { slice_get self.now at ≡ Some result }
+        ensures byte { result.0 < 256 }
     {
         (self.bytes[at], fragment_at(&self.runs, at))
     }

@@ -44,7 +44,9 @@ use Rattle.ir_rules.specs.Rules.{held, used, defined, function_named, function_o
 use Rattle.ir_rules.specs.Rules.Broken.{of_use, of_op, of_goal, twice_register, twice_label, twice_function}
 use Rattle.ir_verify.specs.Checks.{call_fits, spawn_fits, goal_fits}
 use Rattle.ir_verify.proofs.Agree.{call_decides, spawn_decides, goal_decides}
-use Rattle.instrument.specs.Translation.{Scope, Definition, place, function_names, labels, registers, params_definitions, dest_definitions, inst_definitions, block_definitions, definitions, scope_of, block_count, blocks_end, spawned_attr}
+use Rattle.ir_ast.specs.Attributes.{Definition, registers, params_definitions, dest_definitions, inst_definitions, block_definitions, definitions, spawned_attr}
+use Rattle.ir_ast.specs.Numbers.{place, function_names, labels, blocks_end}
+use Rattle.instrument.specs.Translation.{Scope, scope_of}
 use Rattle.instrument.specs.Names.{IsOnce, Numbered, OpNumbered, JumpNumbered, BlockNumbered, FunctionNumbered, IsNumbered, program_end}
 use Rattle.instrument.specs.Known.{HasRegister, HasVal, HasVals, HasFunction, HasOp, HasInst, HasJump, HasBlock, IsKnown, AllKnown}
 use Rattle.instrument.proofs.Sets.{swap}
@@ -244,11 +246,11 @@ use_held : (o : Option Holds) (w : Wanted) → (UseBreaks Unknown o w → ⊥) �
 use_held None w none_of = absurd (none_of tt)
 use_held (Some h) w none_of = (h, refl)
 
-all_used : (p : Program) (hosts : HostTable) (f : Function) → IsAccepted p hosts → Contains p.functions f → IsFunction f → Each (Ok (scope_of p.functions hosts.entries f)) (used (function_events f))
+all_used : (p : Program) (hosts : HostTable) (f : Function) → IsAccepted p hosts → Contains p.functions f → IsFunction p.version f → Each (Ok (scope_of p.functions hosts.entries f)) (used (function_events f))
 all_used p hosts f ok there shaped =
     each_from (Ok (scope_of p.functions hosts.entries f)) (used (function_events f)) (λ u in_f.
     let h = use_held (held (function_events f) u.reg.name) u.wanted (λ b. ok Unknown u.reg.at (of_use f u Unknown there in_f b)) in
-    subst (λ (z : List (List ℕ)). place z u.reg.name < length z) (sym (registers_same p.functions f shaped)) (held_place (function_events f) u.reg.name h.0 h.1))
+    subst (λ (z : List (List ℕ)). place z u.reg.name < length z) (sym (registers_same p.version p.functions f shaped)) (held_place (function_events f) u.reg.name h.0 h.1))
 
 -- ---- calls and goals
 
@@ -388,7 +390,7 @@ blocks_end_is : (n : ℕ) (bs : List Block) → blocks_end n bs ≡ n + sum_by b
 blocks_end_is n [] = omega arith
 blocks_end_is n (b ∷ bs) =
     let whole : sum_by block_instructions (b ∷ bs) ≡ block_instructions b + sum_by block_instructions bs = sum_by-cons block_instructions b bs in
-    let more : blocks_end (n + block_count b) bs ≡ (n + block_count b) + sum_by block_instructions bs = blocks_end_is (n + block_count b) bs in omega arith
+    let more : blocks_end (n + block_instructions b) bs ≡ (n + block_instructions b) + sum_by block_instructions bs = blocks_end_is (n + block_instructions b) bs in omega arith
 
 program_end_is : (n : ℕ) (fs : List Function) → program_end n fs ≡ n + sum_by function_instructions fs
 program_end_is n [] = omega arith
@@ -418,33 +420,33 @@ record InstParts (x : Scope) (i : Inst) : Type 0 where
   uses : Each (Ok x) (op_uses i.op)
   calls : Calls x i.op
 
-block_known : (x : Scope) (b : Block) → BlockPlaced (λ n. place x.registers n < length x.registers) b → BlockUses (Ok x) b → IsBlock b → Each (λ i. OpGood x.functions i.op) b.insts → Each (GoalGood x.blocks) (jump_goals b.term.jump) → HasBlock x b
-block_known x b placed used shaped ops goals =
+block_known : (version : ℕ) (x : Scope) (b : Block) → BlockPlaced (λ n. place x.registers n < length x.registers) b → BlockUses (Ok x) b → IsBlock version b → Each (λ i. OpGood x.functions i.op) b.insts → Each (GoalGood x.blocks) (jump_goals b.term.jump) → HasBlock x b
+block_known version x b placed used shaped ops goals =
     let some : Each (λ i. IfSome i.dest (HasRegister x) × Each (Ok x) (op_uses i.op)) b.insts =
     each_zip (λ (i : Inst). IfSome i.dest (HasRegister x)) (λ i. Each (Ok x) (op_uses i.op)) (λ i. IfSome i.dest (HasRegister x) × Each (Ok x) (op_uses i.op)) (λ i d u. (d, u)) b.insts placed.dests used.insts in
     let parts : Each (InstParts x) b.insts =
     each_zip (λ (i : Inst). IfSome i.dest (HasRegister x) × Each (Ok x) (op_uses i.op)) (λ i. OpGood x.functions i.op) (InstParts x) (λ i s g. record { dest = s.0; uses = s.1; calls = g.calls x refl }) b.insts some ops in
     record {
       params = placed.params;
-      insts = each_zip IsInst (InstParts x) (HasInst x) (λ i s g. record { shaped = s; dest = g.dest; uses = op_has x i.op g.uses g.calls }) b.insts shaped.insts parts;
+      insts = each_zip (IsInst version) (InstParts x) (HasInst x) (λ i s g. record { fits = s.0; dest = g.dest; uses = op_has x i.op g.uses g.calls }) b.insts shaped.insts parts;
       jump = jump_has x b.term.jump used.jump (each_map (GoalGood x.blocks) (GoesThere x) (λ g h. h.there) (jump_goals b.term.jump) goals);
     }
 
-record BlockParts (x : Scope) (b : Block) : Type 0 where
+record BlockParts (version : ℕ) (x : Scope) (b : Block) : Type 0 where
   placed : BlockPlaced (λ n. place x.registers n < length x.registers) b
   used : BlockUses (Ok x) b
-  shaped : IsBlock b
+  shaped : IsBlock version b
   few : FewBlockParams b
   ops : Each (λ i. OpGood x.functions i.op) b.insts
   goals : Each (GoalGood x.blocks) (jump_goals b.term.jump)
 
-blocks_parts : (x : Scope) (bs : List Block) → Each (BlockPlaced (λ n. place x.registers n < length x.registers)) bs → Each (BlockUses (Ok x)) bs → Each IsBlock bs → Each FewBlockParams bs
-    → Each (λ b. Each (λ i. OpGood x.functions i.op) b.insts) bs → Each (λ b. Each (GoalGood x.blocks) (jump_goals b.term.jump)) bs → Each (BlockParts x) bs
-blocks_parts x [] a b c d e g = tt
-blocks_parts x (k ∷ bs) a b c d e g =
-    (record { placed = a.0; used = b.0; shaped = c.0; few = d.0; ops = e.0; goals = g.0 }, blocks_parts x bs a.1 b.1 c.1 d.1 e.1 g.1)
+blocks_parts : (version : ℕ) (x : Scope) (bs : List Block) → Each (BlockPlaced (λ n. place x.registers n < length x.registers)) bs → Each (BlockUses (Ok x)) bs → Each (IsBlock version) bs → Each FewBlockParams bs
+    → Each (λ b. Each (λ i. OpGood x.functions i.op) b.insts) bs → Each (λ b. Each (GoalGood x.blocks) (jump_goals b.term.jump)) bs → Each (BlockParts version x) bs
+blocks_parts version x [] a b c d e g = tt
+blocks_parts version x (k ∷ bs) a b c d e g =
+    (record { placed = a.0; used = b.0; shaped = c.0; few = d.0; ops = e.0; goals = g.0 }, blocks_parts version x bs a.1 b.1 c.1 d.1 e.1 g.1)
 
-function_good : (p : Program) (hosts : HostTable) (f : Function) → IsAccepted p hosts → Contains p.functions f → IsFunction f → Each FewParams p.functions
+function_good : (p : Program) (hosts : HostTable) (f : Function) → IsAccepted p hosts → Contains p.functions f → IsFunction p.version f → Each FewParams p.functions
     → function_registers f ≤ most_registers → function_instructions f ≤ most_instructions → FunctionGood p.functions hosts.entries f
 function_good p hosts f ok there shaped few regs insts =
     let fs : List Function = p.functions in
@@ -461,23 +463,23 @@ function_good p hosts f ok there shaped few regs insts =
     let goals : Each (λ b. Each (GoalGood f.blocks) (jump_goals b.term.jump)) f.blocks =
     each_from (λ (b : Block). Each (GoalGood f.blocks) (jump_goals b.term.jump)) f.blocks (λ b in_f. each_from (GoalGood f.blocks) (jump_goals b.term.jump)
     (λ g in_b. goal_good f.blocks g few_here (λ none_of. ok BadTarget g.label.at (of_goal f b g there in_f in_b none_of)))) in
-    let parts : Each (BlockParts x) f.blocks =
-    blocks_parts x f.blocks (blocks_placed (λ (n : List ℕ). place rs n < length rs) fs f.blocks both.1) uses_ shaped.blocks few_here ops goals in
+    let parts : Each (BlockParts p.version x) f.blocks =
+    blocks_parts p.version x f.blocks (blocks_placed (λ (n : List ℕ). place rs n < length rs) fs f.blocks both.1) uses_ shaped.blocks few_here ops goals in
     let size : length (definitions fs f) ≡ function_registers f = function_length fs f in
     let blocks_few : length f.blocks ≤ sum_by block_instructions f.blocks = blocks_below f.blocks in
     record {
       numbered = record {
-        registers_once = subst IsOnce (sym (registers_same fs f shaped)) (once_from (defined (function_events f)) (λ at s. ok Twice at (twice_register f at there s)));
+        registers_once = subst IsOnce (sym (registers_same p.version fs f shaped)) (once_from (defined (function_events f)) (λ at s. ok Twice at (twice_register f at there s)));
         labels_once = subst IsOnce (map_twice (λ (d : Named). d.name) (λ (b : Block). b.label) f.blocks) (once_from (map (λ (b : Block). b.label) f.blocks) (λ at s. ok Twice at (twice_label f at there s)));
         few_registers = omega arith;
         few_blocks = omega arith;
         few_params = few_params f regs;
-        blocks = each_map (BlockParts x) BlockNumbered (λ b h. block_numbered fs f.blocks b h.few h.ops h.goals) f.blocks parts;
+        blocks = each_map (BlockParts p.version x) BlockNumbered (λ b h. block_numbered fs f.blocks b h.few h.ops h.goals) f.blocks parts;
       };
       known = record {
         some_block = shaped.some_block;
         params = params_placed (λ (n : List ℕ). place rs n < length rs) f.params both.0;
-        blocks = each_map (BlockParts x) (HasBlock x) (λ b h. block_known x b h.placed h.used h.shaped h.ops h.goals) f.blocks parts;
+        blocks = each_map (BlockParts p.version x) (HasBlock x) (λ b h. block_known p.version x b h.placed h.used h.shaped h.ops h.goals) f.blocks parts;
       };
     }
 
@@ -494,7 +496,7 @@ functions_good p hosts ok program =
     each_from (FunctionGood p.functions hosts.entries) p.functions (λ f there.
     let regs : function_registers f ≤ most_registers = each_member (λ (g : Function). function_registers g ≤ most_registers) p.functions there.0 f there.1 there.2 limits.registers in
     let some : function_instructions f ≤ sum_by function_instructions p.functions = each_member (λ (g : Function). function_instructions g ≤ sum_by function_instructions p.functions) p.functions there.0 f there.1 there.2 (functions_below p.functions) in
-    let shaped : IsFunction f = each_member IsFunction p.functions there.0 f there.1 there.2 program.shaped.functions in
+    let shaped : IsFunction p.version f = each_member (IsFunction p.version) p.functions there.0 f there.1 there.2 program.shaped.functions in
     function_good p hosts f ok there shaped few regs (omega arith))
 
 pub accepted_numbered : (p : Program) (hosts : HostTable) → IsAccepted p hosts → IsProgram p → length hosts.entries < 2 ^ 32 → IsNumbered hosts.entries p

@@ -2,7 +2,7 @@
 use Rattle.std.proofs.Common.{List, [], ◌++◌, ℕ, Option, sym, ap, ◌∙◌, append_assoc}
 use Rattle.std.proofs.lemmas.List.{append-nil, map-append}
 use Rattle.ir_ast.specs.declared.types.Attr.{Attr}
-use Rattle.instrument.specs.Translation.{Definition, registers, attrs}
+use Rattle.ir_ast.specs.Attributes.{Definition, registers, attrs}
 use Rattle.instrument.specs.Sets.{names_in, Defines}
 use Rattle.instrument.specs.declared.scope.Definitions.{Definitions}
 

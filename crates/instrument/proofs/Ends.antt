@@ -4,18 +4,19 @@ use Rattle.std.specs.Prelude.{slice_get}
 use Rattle.ir_ast.specs.Tokens.{Each}
 use Rattle.ir_ast.specs.declared.program.Block.{Block}
 use Rattle.ir_ast.specs.declared.program.Function.{Function}
-use Rattle.instrument.specs.Translation.{block_count, blocks_end}
+use Rattle.ir_ast.specs.Lines.{block_instructions}
+use Rattle.ir_ast.specs.Numbers.{blocks_end}
 use Rattle.instrument.specs.Names.{program_end}
 use Rattle.instrument.proofs.Sets.{cut}
 
 blocks_grow : (n : ℕ) (bs : List Block) → n ≤ blocks_end n bs
 blocks_grow n [] = omega arith
-blocks_grow n (b ∷ bs) = let more : n + block_count b ≤ blocks_end (n + block_count b) bs = blocks_grow (n + block_count b) bs in omega arith
+blocks_grow n (b ∷ bs) = let more : n + block_instructions b ≤ blocks_end (n + block_instructions b) bs = blocks_grow (n + block_instructions b) bs in omega arith
 
-pub block_room : (blocks : List Block) (i : ℕ) (b : Block) (n e : ℕ) → i < length blocks → b ≡ get_or blocks i b → blocks_end n (drop i blocks) ≡ e → e < 2 ^ 32 → n + block_count b < 2 ^ 32
+pub block_room : (blocks : List Block) (i : ℕ) (b : Block) (n e : ℕ) → i < length blocks → b ≡ get_or blocks i b → blocks_end n (drop i blocks) ≡ e → e < 2 ^ 32 → n + block_instructions b < 2 ^ 32
 block_room blocks i b n e lt is h small =
-    let end : blocks_end (n + block_count b) (drop (i + 1) blocks) ≡ e = subst (λ (z : List Block). blocks_end n z ≡ e) (cut blocks i b lt is) h in
-    let grow : n + block_count b ≤ blocks_end (n + block_count b) (drop (i + 1) blocks) = blocks_grow (n + block_count b) (drop (i + 1) blocks) in
+    let end : blocks_end (n + block_instructions b) (drop (i + 1) blocks) ≡ e = subst (λ (z : List Block). blocks_end n z ≡ e) (cut blocks i b lt is) h in
+    let grow : n + block_instructions b ≤ blocks_end (n + block_instructions b) (drop (i + 1) blocks) = blocks_grow (n + block_instructions b) (drop (i + 1) blocks) in
     omega arith
 
 program_grow : (n : ℕ) (fs : List Function) → n ≤ program_end n fs

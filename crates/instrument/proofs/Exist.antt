@@ -24,7 +24,8 @@ use Rattle.target_code.specs.declared.line.Shadow.TheVariants as shadow
 use Rattle.target_code.specs.declared.line.Line.{Line}
 use Rattle.target_code.specs.declared.line.Line.TheVariants as line
 use Rattle.target_code.specs.Formed.{NamesKnown, is_push, slots, block_named, function_named, operand_slots, shadow_slots, args_slots}
-use Rattle.instrument.specs.Translation.{Scope, slot, function_number, block_number, host_number, operand_of, shadow_of, operands_of, for_ptr, arg_lines, take_lines, params_at, goal_lines, retag_lines, result_lines, attr_of_call, attr_of_join, written, op_lines, slot_of_dest, ret_lines, jump_lines, body_lines, block_lines, guard_of, param_lines, entry_retag, entry_retags}
+use Rattle.ir_ast.specs.Attributes.{attr_of_call, guard_of}
+use Rattle.instrument.specs.Translation.{Scope, slot, function_number, block_number, host_number, operand_of, shadow_of, operands_of, for_ptr, arg_lines, take_lines, params_at, goal_lines, retag_lines, result_lines, attr_of_join, written, op_lines, slot_of_dest, ret_lines, jump_lines, body_lines, block_lines, param_lines, entry_retag, entry_retags}
 use Rattle.instrument.specs.Known.{HasRegister, HasVal, HasVals, HasParams, HasGoal, HasOp, HasInst, HasJump, HasBlock}
 
 abbrev pub Below : Scope → ℕ → Type 0
@@ -284,7 +285,7 @@ fine_jump x Unreachable known h = (moves x line.Unreachable tt refl refl refl, t
 fine_body : (x : Scope) (n : ℕ) (is : List Inst) (j : Jump) → Each (HasBlock x) x.blocks → Each (HasInst x) is → HasJump x j → AllFine x (body_lines x n is j)
 fine_body x n [] j known h k = fine_jump x j known k
 fine_body x n (i ∷ is) j known h k =
-    fine_op x i.op (slot_of_dest x i.dest) (line.Turn (n + 1) ∷ body_lines x (n + 1) is j) h.0.uses (given x i.op i.dest h.0.shaped.0 h.0.dest)
+    fine_op x i.op (slot_of_dest x i.dest) (line.Turn (n + 1) ∷ body_lines x (n + 1) is j) h.0.uses (given x i.op i.dest h.0.fits h.0.dest)
     (moves x (line.Turn (n + 1)) tt refl refl refl, fine_body x (n + 1) is j known h.1 k)
 
 pub fine_block : (x : Scope) (n : ℕ) (b : Block) → Each (HasBlock x) x.blocks → HasBlock x b → AllFine x (block_lines x n b)

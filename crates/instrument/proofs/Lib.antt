@@ -7,4 +7,3 @@ pub mod Exist
 pub mod Whole
 pub mod Once
 pub mod Accepted
-pub mod Single

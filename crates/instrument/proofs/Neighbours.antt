@@ -19,7 +19,8 @@ use Rattle.target_code.specs.declared.line.Shadow.TheVariants as shadow
 use Rattle.target_code.specs.declared.line.Line.{Line}
 use Rattle.target_code.specs.declared.line.Line.TheVariants as line
 use Rattle.target_code.specs.Formed.{EachTwo, check_of, check_made, unshadowed, shadow_given, is_pop, is_return, IsChecked, IsShadowed, IsReturned}
-use Rattle.instrument.specs.Translation.{Scope, slot, function_number, block_number, host_number, operand_of, shadow_of, operands_of, for_ptr, arg_lines, take_lines, params_at, goal_lines, retag_lines, result_lines, attr_of_call, attr_of_join, written, op_lines, slot_of_dest, ret_lines, jump_lines, body_lines, block_lines, guard_of, param_lines, entry_retag, entry_retags, entry_lines}
+use Rattle.ir_ast.specs.Attributes.{attr_of_call, guard_of}
+use Rattle.instrument.specs.Translation.{Scope, slot, function_number, block_number, host_number, operand_of, shadow_of, operands_of, for_ptr, arg_lines, take_lines, params_at, goal_lines, retag_lines, result_lines, attr_of_join, written, op_lines, slot_of_dest, ret_lines, jump_lines, body_lines, block_lines, param_lines, entry_retag, entry_retags, entry_lines}
 
 abbrev pub Fit : Option Line → Option Line → Type 0
 Fit a b = IsChecked a b × IsShadowed a b × IsReturned a b

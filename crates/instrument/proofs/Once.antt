@@ -18,7 +18,7 @@ use Rattle.ir_ast.specs.declared.program.Function.{Function}
 use Rattle.ir_rules.specs.Occurrences.{Use, Event, op_uses, op_gives, jump_uses, param_event, dest_events, inst_events, block_events, function_events}
 use Rattle.ir_rules.specs.Occurrences.Event.{defines, uses}
 use Rattle.ir_rules.specs.Rules.{SecondOf, defined}
-use Rattle.instrument.specs.Translation.{Definition, registers, params_definitions, dest_definitions, inst_definitions, block_definitions, definitions, spawned_attr}
+use Rattle.ir_ast.specs.Attributes.{Definition, registers, params_definitions, dest_definitions, inst_definitions, block_definitions, definitions, spawned_attr}
 use Rattle.instrument.specs.Names.{IsOnce}
 
 abbrev pub names : List Named → List (List ℕ)
@@ -141,25 +141,25 @@ dest_same : (dest : Option Named) (o : Op) (attr : Option Attr) → FitsDestinat
 dest_same None o attr h = refl
 dest_same (Some r) o attr h = sym (ap names (gives o r h))
 
-inst_same : (fs : List Function) (i : Inst) → IsInst i → registers (inst_definitions fs i) ≡ names (defined (inst_events i))
-inst_same fs i h = dest_same i.dest i.op (spawned_attr fs i.op) h.0 ∙ ap names (sym (defined_uses (op_uses i.op) (dest_events i.dest (op_gives i.op))))
+inst_same : (version : ℕ) (fs : List Function) (i : Inst) → IsInst version i → registers (inst_definitions fs i) ≡ names (defined (inst_events i))
+inst_same version fs i h = dest_same i.dest i.op (spawned_attr fs i.op) h.0 ∙ ap names (sym (defined_uses (op_uses i.op) (dest_events i.dest (op_gives i.op))))
 
-insts_same : (fs : List Function) (is : List Inst) → Each IsInst is → registers (flat_map (inst_definitions fs) is) ≡ names (defined (flat_map inst_events is))
-insts_same fs [] h = refl
-insts_same fs (i ∷ is) h = join_same (inst_definitions fs i) (flat_map (inst_definitions fs) is) (inst_events i) (flat_map inst_events is) (inst_same fs i h.0) (insts_same fs is h.1)
+insts_same : (version : ℕ) (fs : List Function) (is : List Inst) → Each (IsInst version) is → registers (flat_map (inst_definitions fs) is) ≡ names (defined (flat_map inst_events is))
+insts_same version fs [] h = refl
+insts_same version fs (i ∷ is) h = join_same (inst_definitions fs i) (flat_map (inst_definitions fs) is) (inst_events i) (flat_map inst_events is) (inst_same version fs i h.0) (insts_same version fs is h.1)
 
-block_same : (fs : List Function) (b : Block) → Each IsInst b.insts → registers (block_definitions fs b) ≡ names (defined (block_events b))
-block_same fs b h =
+block_same : (version : ℕ) (fs : List Function) (b : Block) → Each (IsInst version) b.insts → registers (block_definitions fs b) ≡ names (defined (block_events b))
+block_same version fs b h =
     let front : List Event = map param_event b.params ++ flat_map inst_events b.insts in
     let last : List Event = map uses (jump_uses b.term.jump) in
     let whole : defined (front ++ last) ≡ defined front = defined_join front last ∙ ap (λ (z : List Named). defined front ++ z) (none_defined (jump_uses b.term.jump)) ∙ append-nil (defined front) in
-    join_same (params_definitions b.params) (flat_map (inst_definitions fs) b.insts) (map param_event b.params) (flat_map inst_events b.insts) (params_same b.params) (insts_same fs b.insts h)
+    join_same (params_definitions b.params) (flat_map (inst_definitions fs) b.insts) (map param_event b.params) (flat_map inst_events b.insts) (params_same b.params) (insts_same version fs b.insts h)
     ∙ ap names (sym whole)
 
-blocks_same : (fs : List Function) (bs : List Block) → Each IsBlock bs → registers (flat_map (block_definitions fs) bs) ≡ names (defined (flat_map block_events bs))
-blocks_same fs [] h = refl
-blocks_same fs (b ∷ bs) h = join_same (block_definitions fs b) (flat_map (block_definitions fs) bs) (block_events b) (flat_map block_events bs) (block_same fs b h.0.insts) (blocks_same fs bs h.1)
+blocks_same : (version : ℕ) (fs : List Function) (bs : List Block) → Each (IsBlock version) bs → registers (flat_map (block_definitions fs) bs) ≡ names (defined (flat_map block_events bs))
+blocks_same version fs [] h = refl
+blocks_same version fs (b ∷ bs) h = join_same (block_definitions fs b) (flat_map (block_definitions fs) bs) (block_events b) (flat_map block_events bs) (block_same version fs b h.0.insts) (blocks_same version fs bs h.1)
 
-pub registers_same : (fs : List Function) (f : Function) → IsFunction f → registers (definitions fs f) ≡ names (defined (function_events f))
-registers_same fs f h =
-    join_same (params_definitions f.params) (flat_map (block_definitions fs) f.blocks) (map param_event f.params) (flat_map block_events f.blocks) (params_same f.params) (blocks_same fs f.blocks h.blocks)
+pub registers_same : (version : ℕ) (fs : List Function) (f : Function) → IsFunction version f → registers (definitions fs f) ≡ names (defined (function_events f))
+registers_same version fs f h =
+    join_same (params_definitions f.params) (flat_map (block_definitions fs) f.blocks) (map param_event f.params) (flat_map block_events f.blocks) (params_same f.params) (blocks_same version fs f.blocks h.blocks)

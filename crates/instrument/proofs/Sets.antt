@@ -11,7 +11,7 @@ use Rattle.std.proofs.lemmas.List.Folds.{list_any_at}
 use Rattle.std.proofs.lemmas.Slice.Eq.{bytes_eq-Decides}
 use Rattle.indexmap.specs.IndexSet.{insert_key}
 use Rattle.ir_ast.specs.declared.hosts.HostEntry.{HostEntry}
-use Rattle.instrument.specs.Translation.{place, host_names}
+use Rattle.ir_ast.specs.Numbers.{place, host_names}
 use Rattle.instrument.specs.Names.{IsOnce}
 use Rattle.instrument.specs.Sets.{names_in}
 

@@ -9,7 +9,9 @@ use Rattle.target_code.specs.declared.line.Line.{Line}
 use Rattle.target_code.specs.declared.line.Line.TheVariants as line
 use Rattle.target_code.specs.declared.line.TargetFunction.{TargetFunction}
 use Rattle.target_code.specs.Formed.{EachTwo, IsChecked, IsShadowed, IsReturned, Begins, is_turn, is_push, HasBlocks, NoPush, PushesOnce, NamesKnown, stretches, IsWellFormed}
-use Rattle.instrument.specs.Translation.{Scope, scope_of, block_count, blocks_lines, blocks_end, param_lines, entry_retags, entry_lines, function_code, functions_code, translation}
+use Rattle.ir_ast.specs.Lines.{block_instructions}
+use Rattle.ir_ast.specs.Numbers.{blocks_end}
+use Rattle.instrument.specs.Translation.{Scope, scope_of, blocks_lines, param_lines, entry_retags, entry_lines, function_code, functions_code, translation}
 use Rattle.instrument.specs.Known.{HasBlock, IsKnown, AllKnown}
 use Rattle.instrument.proofs.Neighbours.{Fit, block_fits, entry_fits}
 use Rattle.instrument.proofs.Exist.{Fine, AllFine, fine_block, fine_entry}
@@ -26,19 +28,19 @@ two_map P Q f before (l ∷ ls) h = (f before (Some l) h.0, two_map P Q f (Some 
 
 blocks_length : (x : Scope) (n : ℕ) (bs : List Block) → length (blocks_lines x n bs) ≡ length bs
 blocks_length x n [] = refl
-blocks_length x n (b ∷ bs) = ap suc (blocks_length x (n + block_count b) bs)
+blocks_length x n (b ∷ bs) = ap suc (blocks_length x (n + block_instructions b) bs)
 
 blocks_fit : (x : Scope) (n : ℕ) (bs : List Block) → Each (EachTwo Fit None) (blocks_lines x n bs)
 blocks_fit x n [] = tt
-blocks_fit x n (b ∷ bs) = (block_fits x n b, blocks_fit x (n + block_count b) bs)
+blocks_fit x n (b ∷ bs) = (block_fits x n b, blocks_fit x (n + block_instructions b) bs)
 
 blocks_begin : (x : Scope) (n : ℕ) (bs : List Block) → Each (Begins is_turn) (blocks_lines x n bs)
 blocks_begin x n [] = tt
-blocks_begin x n (b ∷ bs) = (refl, blocks_begin x (n + block_count b) bs)
+blocks_begin x n (b ∷ bs) = (refl, blocks_begin x (n + block_instructions b) bs)
 
 blocks_fine : (x : Scope) (n : ℕ) (bs : List Block) → Each (HasBlock x) x.blocks → Each (HasBlock x) bs → Each (AllFine x) (blocks_lines x n bs)
 blocks_fine x n [] known h = tt
-blocks_fine x n (b ∷ bs) known h = (fine_block x n b known h.0, blocks_fine x (n + block_count b) bs known h.1)
+blocks_fine x n (b ∷ bs) known h = (fine_block x n b known h.0, blocks_fine x (n + block_instructions b) bs known h.1)
 
 abbrev pub Names : Scope → Line → Type 0
 Names x l = NamesKnown (length x.registers) (length x.blocks) (length x.functions) l

@@ -1,7 +1,7 @@
 -- Programs of which each name that is used is defined.
 use Rattle.std.specs.Prelude.{◌<◌, List, length, IfSome}
 use Rattle.ir_ast.specs.Tokens.{Each}
-use Rattle.ir_ast.specs.Shapes.{IsInst}
+use Rattle.ir_ast.specs.Shapes.{FitsDestination}
 use Rattle.ir_ast.specs.declared.hosts.HostEntry.{HostEntry}
 use Rattle.ir_ast.specs.declared.program.Named.{Named}
 use Rattle.ir_ast.specs.declared.program.Param.{Param}
@@ -63,9 +63,9 @@ HasOp x (op.Host result host args) = HasVals x args
 HasOp x (op.Spawn function args) = HasFunction x function × HasVals x args
 HasOp x (op.Join result ty_at handle) = HasRegister x handle
 
--- an instruction of the grammar, of which all that it uses and defines is there
+-- an instruction with a destination where it may have one, of which all that it uses and defines is there
 pub record HasInst (x : Scope) (i : Inst) : Type 0 where
-  pub shaped : IsInst i
+  pub fits : FitsDestination i.dest i.op
   pub dest : IfSome i.dest (HasRegister x)
   pub uses : HasOp x i.op
 

@@ -11,7 +11,8 @@ use Rattle.ir_ast.specs.declared.program.Block.{Block}
 use Rattle.ir_ast.specs.declared.program.Function.{Function}
 use Rattle.ir_ast.specs.declared.program.Program.{Program}
 use Rattle.ir_ast.specs.declared.hosts.HostEntry.{HostEntry}
-use Rattle.instrument.specs.Translation.{function_names, labels, registers, definitions, blocks_end}
+use Rattle.ir_ast.specs.Numbers.{function_names, labels, blocks_end}
+use Rattle.ir_ast.specs.Attributes.{registers, definitions}
 
 -- no name stands twice
 abbrev pub IsOnce : List (List ℕ) → Type 0

@@ -1,7 +1,7 @@
 -- Names behind references, and what is added to a list of definitions.
 use Rattle.std.specs.Prelude.{◌≡◌, ℕ, List, ◌++◌, map}
 use Rattle.std.specs.Borrow.{Bor}
-use Rattle.instrument.specs.Translation.{Definition, registers, attrs}
+use Rattle.ir_ast.specs.Attributes.{Definition, registers, attrs}
 use Rattle.instrument.specs.declared.scope.Definitions.{Definitions}
 
 abbrev pub names_in : List (Bor (List ℕ)) → List (List ℕ)

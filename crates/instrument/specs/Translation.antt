@@ -1,13 +1,11 @@
 -- The translation of a program to target code. Each list of lines is built in front of the lines that follow it.
-use Rattle.std.specs.Prelude.{ℕ, suc, ◌+◌, List, [], ◌∷◌, ◌++◌, Option, Some, None, if◌then◌else◌, map, length, slice_get}
-use Rattle.std.specs.List.{flat_map}
-use Rattle.std.specs.Str.{bytes_eq}
-use Rattle.std.specs.Option.{option_and_then, option_flatten}
-use Rattle.perm_table.specs.declared.RetagKind.{RetagKind}
-use Rattle.perm_table.specs.declared.RetagKind.TheVariants as kind
-use Rattle.perm_table.specs.declared.Guard.{Guard}
-use Rattle.perm_table.specs.declared.Guard.TheVariants.{Free, Weak, Strong}
+use Rattle.std.specs.Prelude.{ℕ, ◌+◌, List, [], ◌∷◌, Option, Some, None, map, length, slice_get}
+use Rattle.std.specs.Option.{option_flatten}
+use Rattle.perm_table.specs.declared.Guard.TheVariants.{Free}
 use Rattle.ir_ast.specs.Words.{ty_bytes, width_bytes}
+use Rattle.ir_ast.specs.Lines.{block_instructions}
+use Rattle.ir_ast.specs.Numbers.{place, function_names, labels, host_names, function_place, block_place, blocks_end}
+use Rattle.ir_ast.specs.Attributes.{guard_of, attr_of_call, definitions, registers, attrs}
 use Rattle.ir_ast.specs.declared.types.Ty.{Ty}
 use Rattle.ir_ast.specs.declared.types.Ty.TheVariants.{Int, Ptr}
 use Rattle.ir_ast.specs.declared.types.Attr.{Attr}
@@ -37,66 +35,6 @@ use Rattle.target_code.specs.declared.line.Target.{Target}
 
 -- ---- names and their numbers
 
--- the place of a name in a list, and the list's length where it isn't there
-abbrev pub place : List (List ℕ) → List ℕ → ℕ
-place [] name = 0
-place (n ∷ ns) name = if bytes_eq n name then 0 else suc (place ns name)
-
-abbrev pub function_names : List Function → List (List ℕ)
-function_names fs = map (λ f. f.name.name) fs
-
-abbrev pub labels : List Block → List (List ℕ)
-labels bs = map (λ b. b.label.name) bs
-
-abbrev pub host_names : List HostEntry → List (List ℕ)
-host_names hs = map (λ h. h.name) hs
-
-abbrev pub result_attr : Function → Option Attr
-result_attr f = f.result.attr
-
--- the attribute of the result of the function of this name
-abbrev pub attr_of_call : List Function → List ℕ → Option Attr
-attr_of_call fs name = option_and_then result_attr (slice_get fs (place (function_names fs) name))
-
--- A register that a function defines. A join through it gives a result of this attribute.
-pub record Definition : Type 0 where
-  pub name : List ℕ
-  pub attr : Option Attr
-
-abbrev pub definition : Named → Option Attr → Definition
-definition r attr = record { name = r.name; attr = attr }
-
-abbrev pub param_definitions : Param → List Definition
-param_definitions p = definition p.reg None ∷ []
-
-abbrev pub params_definitions : List Param → List Definition
-params_definitions ps = flat_map param_definitions ps
-
--- the attribute of what a spawned function gives back
-abbrev pub spawned_attr : List Function → Op → Option Attr
-spawned_attr fs (op.Spawn function args) = attr_of_call fs function.name
-spawned_attr fs other = None
-
-abbrev pub dest_definitions : Option Named → Option Attr → List Definition
-dest_definitions None attr = []
-dest_definitions (Some r) attr = definition r attr ∷ []
-
-abbrev pub inst_definitions : List Function → Inst → List Definition
-inst_definitions fs i = dest_definitions i.dest (spawned_attr fs i.op)
-
-abbrev pub block_definitions : List Function → Block → List Definition
-block_definitions fs b = params_definitions b.params ++ flat_map (inst_definitions fs) b.insts
-
--- the registers of a function, in the order of their definitions
-abbrev pub definitions : List Function → Function → List Definition
-definitions fs f = params_definitions f.params ++ flat_map (block_definitions fs) f.blocks
-
-abbrev pub registers : List Definition → List (List ℕ)
-registers ds = map (λ d. d.name) ds
-
-abbrev pub attrs : List Definition → List (Option Attr)
-attrs ds = map (λ d. d.attr) ds
-
 -- What the lines of a function are made of: the program's functions and the hosts; the function's registers, what joins
 -- through them give, and its blocks.
 pub record Scope : Type 0 where
@@ -111,10 +49,10 @@ abbrev pub slot : Scope → Named → ℕ
 slot x r = place x.registers r.name
 
 abbrev pub function_number : Scope → Named → ℕ
-function_number x f = place (function_names x.functions) f.name
+function_number x f = function_place x.functions f.name
 
 abbrev pub block_number : Scope → Named → ℕ
-block_number x label = place (labels x.blocks) label.name
+block_number x label = block_place x.blocks label.name
 
 abbrev pub host_number : Scope → Named → ℕ
 host_number x host = place (host_names x.hosts) host.name
@@ -248,20 +186,11 @@ body_lines x n (i ∷ is) jump = op_lines x i.op (slot_of_dest x i.dest) (line.T
 abbrev pub block_lines : Scope → ℕ → Block → List Line
 block_lines x n b = line.Turn n ∷ body_lines x n b.insts b.term.jump
 
--- how many instructions a block has, its terminator among them
-abbrev pub block_count : Block → ℕ
-block_count b = length b.insts + 1
-
 abbrev pub blocks_lines : Scope → ℕ → List Block → List (List Line)
 blocks_lines x n [] = []
-blocks_lines x n (b ∷ bs) = block_lines x n b ∷ blocks_lines x (n + block_count b) bs
+blocks_lines x n (b ∷ bs) = block_lines x n b ∷ blocks_lines x (n + block_instructions b) bs
 
 -- ---- functions
-
--- what guards a parameter while its function runs
-abbrev pub guard_of : RetagKind → Guard
-guard_of kind.Boxed = Weak
-guard_of other = Strong
 
 -- the arguments that a call handed over, from an index on
 abbrev pub param_lines : Scope → ℕ → List Param → List Line → List Line
@@ -291,14 +220,10 @@ function_code fs hosts n f =
     let x = scope_of fs hosts f in
     record { name = f.name.name; slots = length x.registers; entry = entry_lines x f.params; blocks = blocks_lines x n f.blocks }
 
-abbrev pub blocks_end : ℕ → List Block → ℕ
-blocks_end n [] = n
-blocks_end n (b ∷ bs) = blocks_end (n + block_count b) bs
-
 abbrev pub functions_code : List Function → List HostEntry → ℕ → List Function → List TargetFunction
 functions_code fs hosts n [] = []
 functions_code fs hosts n (f ∷ more) = function_code fs hosts n f ∷ functions_code fs hosts (blocks_end n f.blocks) more
 
 -- the target code of a program, whose calls of the host are of this table
 abbrev pub translation : List HostEntry → Program → Target
-translation hosts p = record { functions = functions_code p.functions hosts 0 p.functions }
+translation hosts p = record { version = p.version; functions = functions_code p.functions hosts 0 p.functions }

@@ -4,7 +4,10 @@ ghost use Rattle.ir_ast.specs.Tokens.{Each};
 ghost use Rattle.ir_ast.specs.declared.program.Jump.{Jump};
 ghost use Rattle.target_code.specs.declared.line.Line.TheVariants as line;
 ghost use Rattle.instrument.specs.Translation as translation;
-ghost use Rattle.instrument.specs.Translation.{for_ptr, jump_lines, body_lines, block_lines, blocks_lines, block_count, blocks_end, param_lines, entry_retag, entry_retags, entry_lines, function_code, functions_code};
+ghost use Rattle.ir_ast.specs.Lines.{block_instructions};
+ghost use Rattle.ir_ast.specs.Numbers.{blocks_end};
+ghost use Rattle.ir_ast.specs.Attributes.{guard_of};
+ghost use Rattle.instrument.specs.Translation.{for_ptr, jump_lines, body_lines, block_lines, blocks_lines, param_lines, entry_retag, entry_retags, entry_lines, function_code, functions_code};
 ghost use Rattle.instrument.specs.Names.{Numbered, OpNumbered, BlockNumbered, FunctionNumbered, IsNumbered, program_end};
 ghost use Rattle.instrument.specs.Lines.{Adds};
 
@@ -19,10 +22,10 @@ use target_code::{Line, Target, TargetFunction};
 
 /// What guards a parameter while its function runs.
 fn guard_of(kind: RetagKind) -> Guard
-    ensures { result ≡ translation.guard_of kind }
+    ensures { result ≡ guard_of kind }
 {
     match kind {
-        RetagKind::Boxed => Guard::Weak,
+        RetagKind::Boxed | RetagKind::ShrCell => Guard::Weak,
         RetagKind::Mut | RetagKind::Cell | RetagKind::Shr => Guard::Strong,
     }
 }
@@ -133,7 +136,7 @@ fn block_code(
 ) -> Result<ListOf<Line>, NoMemory>
     requires numbered { BlockNumbered block.now }
     requires blocks { Each BlockNumbered scope.now.blocks }
-    requires end { first + block_count block.now < 2 ^ 32 }
+    requires end { first + block_instructions block.now < 2 ^ 32 }
     ensures { IfOk result (λ code. code ≡ block_lines scope.now first block.now) }
 {
     let mut code = ListOf::new(alloc);
@@ -145,8 +148,8 @@ fn block_code(
 
 /// The number behind a block's last instruction.
 fn behind(number: u32, block: &Block) -> u32
-    requires { number + block_count block.now < 2 ^ 32 }
-    ensures { result ≡ number + block_count block.now }
+    requires { number + block_instructions block.now < 2 ^ 32 }
+    ensures { result ≡ number + block_instructions block.now }
 {
     number + block.insts.len() as u32 + 1
 }
@@ -230,5 +233,8 @@ pub fn translate(alloc: Global, program: &Program, hosts: &HostTable) -> Result<
         )?)?;
         number = end_of(number, function.blocks.as_slice());
     }
-    Ok(Target { functions: code })
+    Ok(Target {
+        version: program.version,
+        functions: code,
+    })
 }

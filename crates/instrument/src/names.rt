@@ -1,6 +1,6 @@
 //! Sets of names, in which a name's place is its number.
 ghost use Rattle.std.specs.Prelude.{◌≡◌, ◌<◌, ◌^◌, map, length, IfOk};
-ghost use Rattle.instrument.specs.Translation.{place};
+ghost use Rattle.ir_ast.specs.Numbers.{place};
 ghost use Rattle.instrument.specs.Names.{IsOnce};
 ghost use Rattle.instrument.specs.Sets.{names_in};
 

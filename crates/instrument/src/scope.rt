@@ -3,7 +3,9 @@ ghost use Rattle.std.specs.Prelude.{◌≡◌, ◌<◌, ◌^◌, ◌++◌, ◌�
 ghost use Rattle.std.specs.List.{flat_map};
 ghost use Rattle.ir_ast.specs.Tokens.{Each};
 ghost use Rattle.instrument.specs.Translation as translation;
-ghost use Rattle.instrument.specs.Translation.{function_names, labels, host_names, params_at, attr_of_call, attr_of_join, definition, params_definitions, inst_definitions, block_definitions, definitions, registers, scope_of};
+ghost use Rattle.ir_ast.specs.Numbers.{place, function_names, labels, host_names};
+ghost use Rattle.ir_ast.specs.Attributes.{attr_of_call, definition, spawned_attr, params_definitions, inst_definitions, block_definitions, definitions, registers};
+ghost use Rattle.instrument.specs.Translation.{params_at, attr_of_join, scope_of};
 ghost use Rattle.instrument.specs.Names.{IsOnce, Numbered};
 ghost use Rattle.instrument.specs.Sets.{Defines};
 
@@ -24,7 +26,7 @@ pub struct Functions<'p> {
 impl<'p> Model for Functions<'p> {
     ghost use Rattle.std.specs.Prelude.{List, ◌≡◌, ◌<◌, ◌^◌, length};
     ghost use Rattle.ir_ast.specs.declared.program.Function.{Function};
-    ghost use Rattle.instrument.specs.Translation.{function_names};
+    ghost use Rattle.ir_ast.specs.Numbers.{function_names};
     ghost use Rattle.instrument.specs.Sets.{names_in};
 
     ghost Value = { List Function };
@@ -53,7 +55,7 @@ impl<'p> Functions<'p> {
 
     /// The number of the function of this name.
     pub fn number(&self, name: &Named) -> u32
-        ensures { result ≡ translation.place (function_names self.now) name.now.name }
+        ensures { result ≡ place (function_names self.now) name.now.name }
     {
         place(&self.names, name.name.as_slice())
     }
@@ -79,7 +81,7 @@ pub struct Blocks<'p> {
 impl<'p> Model for Blocks<'p> {
     ghost use Rattle.std.specs.Prelude.{List, ◌≡◌, ◌<◌, ◌^◌, length};
     ghost use Rattle.ir_ast.specs.declared.program.Block.{Block};
-    ghost use Rattle.instrument.specs.Translation.{labels};
+    ghost use Rattle.ir_ast.specs.Numbers.{labels};
     ghost use Rattle.instrument.specs.Sets.{names_in};
 
     ghost Value = { List Block };
@@ -108,7 +110,7 @@ impl<'p> Blocks<'p> {
 
     /// The number of the block of this label.
     pub fn number(&self, label: &Named) -> u32
-        ensures { result ≡ translation.place (labels self.now) label.now.name }
+        ensures { result ≡ place (labels self.now) label.now.name }
     {
         place(&self.names, label.name.as_slice())
     }
@@ -196,7 +198,7 @@ impl<'p> Definitions<'p> {
 
 /// The attribute of what a spawned function gives back.
 fn spawned_attr(functions: &Functions, op: &Op) -> Option<Attr>
-    ensures { result ≡ translation.spawned_attr functions.now op.now }
+    ensures { result ≡ spawned_attr functions.now op.now }
 {
     match op {
         Op::Spawn { function, .. } => functions.result_attr(function),
@@ -318,7 +320,7 @@ impl<'p> Scope<'p> {
 #[tactic(auto, using(crate::proofs::Sets::host_steps))]
 fn host_place(hosts: &[HostEntry], name: &[u8]) -> u32
     requires { Numbered hosts.now }
-    ensures { result ≡ translation.place (host_names hosts.now) name.now }
+    ensures { result ≡ place (host_names hosts.now) name.now }
 {
     for (at, host) in hosts.iter().enumerate() {
         if host.name.as_slice() == name {

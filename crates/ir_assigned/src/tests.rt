@@ -75,7 +75,11 @@ fn first_place(alloc: Global, other: &str) -> Result<Option<u32>, NoMemory> {
         },
         blocks: blocks(alloc, other)?,
     })?;
-    let program = Program { functions, end: 0 };
+    let program = Program {
+        version: 1,
+        functions,
+        end: 0,
+    };
     let fault = unassigned(alloc, &program)?;
     Ok(fault.map(|fault| fault.at))
 }

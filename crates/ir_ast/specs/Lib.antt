@@ -10,6 +10,7 @@ pub mod Written
 pub mod Writable
 pub mod Programs
 pub mod Numbers
+pub mod Sizes
 pub mod Attributes
 pub mod Places
 pub mod Lexes

@@ -38,7 +38,11 @@ impl Builder {
 
     pub fn program(self) -> Program {
         let Builder { functions, .. } = self;
-        Program { functions, end: 0 }
+        Program {
+            version: 1,
+            functions,
+            end: 0,
+        }
     }
 
     fn named(&self, text: &str) -> Result<Named, NoMemory> {

@@ -44,7 +44,7 @@ use Rattle.ir_reader.specs.Wants.{want_if, begins_if, is_mark, is_any_word, is_w
 use Rattle.ir_reader.specs.Parts.{second, first_of, cons_of, listed, mark_at, after_comma, typed_of, typed_at, next_typed_at, same_state, more_at, values_at, in_round, some_values_at, round_at, args_at, goal_args_at, goal_of, goal_at}
 use Rattle.ir_reader.specs.Ops.{given, register_at, word_at, type_at, value_at, next_register_at, next_value_at, two_at, next_two_at, callee_at, some_type, some_placed, result_at, placed_result_at, const_of, const_at, make_at, gep_of, gep_at, load_of, load_at, store_of, store_at, retag_of, next_size_at, retag_at, binary_of, binary_at, compare_of, compare_at, select_of, select_at, cast_of, to_at, cast_at, ptr_to_int_at, input_at, modify_of, modify_at, cmp_xchg_of, cmp_xchg_at, copy_of, copy_at, free_at, print_of, print_at, call_of, call_at, host_of, host_at, spawn_of, spawn_at, join_of, join_at, tail_at, defined_at}
 use Rattle.ir_reader.specs.Insts.{limited, is_local, want_defined, want_plain, dest_at, op_placed, plain_at, op_for, inst_of, inst_at, want_jump, br_at, next_goal_at, cond_br_of, cond_br_at, typed_some, returned_at, ret_of, ret_at, jump_tail_at, term_of, term_at}
-use Rattle.ir_reader.specs.Blocks.{attr_of, attr_at, optional_attr_at, attr_for, param_register_at, param_of, param_at, next_param_at, one_more, more_params_at, params_at, some_params_at, function_params_at, round_params_at, block_params_at, is_inst, after_inst, insts_at, block_of, head_at, block_at, after_block, more_blocks_at, blocks_at, result_of, result_ty_at, func_at, arrow_result_at, closed_blocks_at, function_of, function_at, after_function, more_functions_at, functions_at, is_one, program_at}
+use Rattle.ir_reader.specs.Blocks.{attr_of, attr_at, optional_attr_at, attr_for, param_register_at, param_of, param_at, next_param_at, one_more, more_params_at, params_at, some_params_at, function_params_at, round_params_at, block_params_at, is_inst, after_inst, insts_at, block_of, head_at, block_at, after_block, more_blocks_at, blocks_at, result_of, result_ty_at, func_at, arrow_result_at, closed_blocks_at, function_of, function_at, after_function, more_functions_at, functions_at, version_in, want_version, program_at}
 use Rattle.ir_reader.proofs.Blind.{unplaced_all, got_without, Blind, result_without, BlindWant, blind_one, each_of, blind_both_by, blind_both, blind_mapped, blind_maybe, blind_many}
 
 abbrev same : {A : Type 0} → A → A
@@ -243,10 +243,10 @@ blind_next_size : Blind same next_size_at
 unfolding next_size_at
 blind_next_size = blind_comma same (one (want_amount (2 ^ 32))) (blind_amount (2 ^ 32))
 
-blind_retag : Blind op_without retag_at
+blind_retag : (version : ℕ) → Blind op_without (retag_at version)
 unfolding retag_at
-blind_retag = blind_mapped (each_of same (each_of named_without same)) op_without retag_of (both (one (want_among kinds)) (λ _. both register_at (λ _. next_size_at)))
-    (blind_both same (each_of named_without same) (one (want_among kinds)) (λ _. both register_at (λ _. next_size_at)) (blind_among kinds)
+blind_retag version = blind_mapped (each_of same (each_of named_without same)) op_without retag_of (both (one (want_among (kinds version))) (λ _. both register_at (λ _. next_size_at)))
+    (blind_both same (each_of named_without same) (one (want_among (kinds version))) (λ _. both register_at (λ _. next_size_at)) (blind_among (kinds version))
     (λ _. blind_both named_without same register_at (λ _. next_size_at) blind_local (λ _. blind_next_size) (λ _ _. refl)) (λ _ _. refl)) (λ _. refl)
 
 blind_binary : (o : BinaryOp) → Blind op_without (binary_at o)
@@ -327,33 +327,33 @@ blind_join : (typed : Bool) → Blind op_without (join_at typed)
 unfolding join_at
 blind_join typed = blind_mapped (each_of (each_of same no_place) named_without) op_without join_of (both (placed_result_at typed) (λ _. register_at)) (blind_both (each_of same no_place) named_without (placed_result_at typed) (λ _. register_at) (blind_placed_result typed) (λ _. blind_local) (λ _ _. refl)) (λ _. refl)
 
-blind_tail : (typed : Bool) (k : Keyword) → Blind op_without (tail_at typed k)
-blind_tail typed key.Const = blind_const
-blind_tail typed key.Null = blind_given op_without op.Null refl
-blind_tail typed (key.Make place) = blind_make place
-blind_tail typed key.Gep = blind_gep
-blind_tail typed key.Load = blind_load
-blind_tail typed key.Store = blind_store
-blind_tail typed key.Retag = blind_retag
-blind_tail typed (key.Binary o) = blind_binary o
-blind_tail typed key.Compare = blind_compare
-blind_tail typed key.Select = blind_select
-blind_tail typed (key.Cast o) = blind_cast o
-blind_tail typed key.PtrToInt = blind_ptr_to_int
-blind_tail typed key.Input = blind_input
-blind_tail typed key.Modify = blind_modify
-blind_tail typed key.CmpXchg = blind_cmp_xchg
-blind_tail typed key.Copy = blind_copy
-blind_tail typed key.Free = blind_free
-blind_tail typed key.Print = blind_print
-blind_tail typed key.Call = blind_call typed
-blind_tail typed key.Host = blind_host
-blind_tail typed key.Spawn = blind_spawn
-blind_tail typed key.Join = blind_join typed
+blind_tail : (version : ℕ) → (typed : Bool) (k : Keyword) → Blind op_without (tail_at version typed k)
+blind_tail version typed key.Const = blind_const
+blind_tail version typed key.Null = blind_given op_without op.Null refl
+blind_tail version typed (key.Make place) = blind_make place
+blind_tail version typed key.Gep = blind_gep
+blind_tail version typed key.Load = blind_load
+blind_tail version typed key.Store = blind_store
+blind_tail version typed key.Retag = blind_retag version
+blind_tail version typed (key.Binary o) = blind_binary o
+blind_tail version typed key.Compare = blind_compare
+blind_tail version typed key.Select = blind_select
+blind_tail version typed (key.Cast o) = blind_cast o
+blind_tail version typed key.PtrToInt = blind_ptr_to_int
+blind_tail version typed key.Input = blind_input
+blind_tail version typed key.Modify = blind_modify
+blind_tail version typed key.CmpXchg = blind_cmp_xchg
+blind_tail version typed key.Copy = blind_copy
+blind_tail version typed key.Free = blind_free
+blind_tail version typed key.Print = blind_print
+blind_tail version typed key.Call = blind_call typed
+blind_tail version typed key.Host = blind_host
+blind_tail version typed key.Spawn = blind_spawn
+blind_tail version typed key.Join = blind_join typed
 
-blind_defined : Blind op_without defined_at
+blind_defined : (version : ℕ) → Blind op_without (defined_at version)
 unfolding defined_at
-blind_defined = blind_mapped (each_of same op_without) op_without second (both (one (want_among definers)) (λ k. tail_at true k)) (blind_both same op_without (one (want_among definers)) (λ k. tail_at true k) (blind_among definers) (blind_tail true) (λ _ _. refl)) (λ _. refl)
+blind_defined version = blind_mapped (each_of same op_without) op_without second (both (one (want_among definers)) (λ k. tail_at version true k)) (blind_both same op_without (one (want_among definers)) (λ k. tail_at version true k) (blind_among definers) (blind_tail version true) (λ _ _. refl)) (λ _. refl)
 
 -- ---- instructions and terminators
 
@@ -363,20 +363,20 @@ blind_dest n r = blind_before (each_of named_without no_place) (one (want_define
     (blind_limited (each_of named_without no_place) (either (counted n most_instructions) (counted r most_registers)) (λ (l : Lex). with_place l.at (local_at l.form l.at))
     (λ l. ap (λ (x : Result Named Cause). with_place 0 x) (local_blind l.form l.at) ∙ placed_blind named_without (local_at l.form l.at) l.at))
 
-blind_plain : (n : ℕ) → Blind (each_of op_without no_place) (plain_at n)
+blind_plain : (version : ℕ) → (n : ℕ) → Blind (each_of op_without no_place) (plain_at version n)
 unfolding plain_at
-blind_plain n = blind_mapped (each_of (each_of same no_place) op_without) (each_of op_without no_place) op_placed (both (one (want_plain n)) (λ k. tail_at false k.0))
-    (blind_both (each_of same no_place) op_without (one (want_plain n)) (λ k. tail_at false k.0)
+blind_plain version n = blind_mapped (each_of (each_of same no_place) op_without) (each_of op_without no_place) op_placed (both (one (want_plain n)) (λ k. tail_at version false k.0))
+    (blind_both (each_of same no_place) op_without (one (want_plain n)) (λ k. tail_at version false k.0)
     (blind_limited (each_of same no_place) (counted n most_instructions) (λ (l : Lex). with_place l.at (word_among plains l.form))
     (λ l. ap (λ (r : Result Keyword Cause). with_place 0 r) (result_same (word_among plains l.form)) ∙ placed_blind same (word_among plains l.form) l.at))
-    (λ k. blind_tail false k.0) (λ _ _. refl)) (λ _. refl)
+    (λ k. blind_tail version false k.0) (λ _ _. refl)) (λ _. refl)
 
 abbrev at_place : ℕ → Got Op → Got (Op × ℕ)
 at_place at r = r >>= λ x. Ok ((x.0, at), x.1)
 
-blind_op_for : (n : ℕ) (d : Option (Named × ℕ)) (ts : List Lex) → op_for n (option_map (each_of named_without no_place) d) (unplaced_all ts) ≡ got_without (each_of op_without no_place) (op_for n d ts)
-blind_op_for n None ts = blind_plain n ts
-blind_op_for n (Some x) ts = ap (λ (r : Got Op). at_place 0 r) (blind_defined ts) ∙ by_got (defined_at ts)
+blind_op_for : (version : ℕ) → (n : ℕ) (d : Option (Named × ℕ)) (ts : List Lex) → op_for version n (option_map (each_of named_without no_place) d) (unplaced_all ts) ≡ got_without (each_of op_without no_place) (op_for version n d ts)
+blind_op_for version n None ts = blind_plain version n ts
+blind_op_for version n (Some x) ts = ap (λ (r : Got Op). at_place 0 r) (blind_defined version ts) ∙ by_got (defined_at version ts)
   where
     by_got : (r : Got Op) → at_place 0 (got_without op_without r) ≡ got_without (each_of op_without no_place) (at_place x.1 r)
     by_got (Ok y) = refl
@@ -389,11 +389,11 @@ inst_blind x = by_dest x.0 x.1
     by_dest None o = refl
     by_dest (Some y) o = refl
 
-blind_inst : (n r : ℕ) → Blind inst_without (inst_at n r)
+blind_inst : (version : ℕ) → (n r : ℕ) → Blind inst_without (inst_at version n r)
 unfolding inst_at
-blind_inst n r = blind_mapped (each_of (option_map (each_of named_without no_place)) (each_of op_without no_place)) inst_without inst_of (both (maybe (begins_if is_local) (dest_at n r)) (op_for n))
-    (blind_both_by (option_map (each_of named_without no_place)) (each_of op_without no_place) (maybe (begins_if is_local) (dest_at n r)) (op_for n)
-    (blind_maybe (each_of named_without no_place) (begins_if is_local) (dest_at n r) (λ _. refl) (blind_dest n r)) (blind_op_for n)) inst_blind
+blind_inst version n r = blind_mapped (each_of (option_map (each_of named_without no_place)) (each_of op_without no_place)) inst_without inst_of (both (maybe (begins_if is_local) (dest_at n r)) (op_for version n))
+    (blind_both_by (option_map (each_of named_without no_place)) (each_of op_without no_place) (maybe (begins_if is_local) (dest_at n r)) (op_for version n)
+    (blind_maybe (each_of named_without no_place) (begins_if is_local) (dest_at n r) (λ _. refl) (blind_dest n r)) (blind_op_for version n)) inst_blind
 
 blind_br : Blind jump_without br_at
 unfolding br_at
@@ -435,63 +435,63 @@ blind_term n = blind_mapped (each_of (each_of same no_place) jump_without) term_
 
 -- ---- parameters
 
-blind_attr : Blind same attr_at
+blind_attr : (version : ℕ) → Blind same (attr_at version)
 unfolding attr_at
-blind_attr = blind_mapped (each_of same same) same attr_of (both (one (want_among kinds)) (λ _. in_round (one (want_amount (2 ^ 32)))))
-    (blind_both same same (one (want_among kinds)) (λ _. in_round (one (want_amount (2 ^ 32)))) (blind_among kinds) (λ _. blind_round same (one (want_amount (2 ^ 32))) (blind_amount (2 ^ 32))) (λ _ _. refl)) (λ _. refl)
+blind_attr version = blind_mapped (each_of same same) same attr_of (both (one (want_among (kinds version))) (λ _. in_round (one (want_amount (2 ^ 32)))))
+    (blind_both same same (one (want_among (kinds version))) (λ _. in_round (one (want_amount (2 ^ 32)))) (blind_among (kinds version)) (λ _. blind_round same (one (want_amount (2 ^ 32))) (blind_amount (2 ^ 32))) (λ _ _. refl)) (λ _. refl)
 
 option_same : {A : Type 0} (o : Option A) → option_map same o ≡ o
 option_same None = refl
 option_same (Some a) = refl
 
-blind_optional_attr : Blind same optional_attr_at
+blind_optional_attr : (version : ℕ) → Blind same (optional_attr_at version)
 unfolding optional_attr_at
-blind_optional_attr ts = blind_maybe same (begins_if is_any_word) attr_at (λ _. refl) blind_attr ts ∙ by_got (maybe (begins_if is_any_word) attr_at ts)
+blind_optional_attr version ts = blind_maybe same (begins_if is_any_word) (attr_at version) (λ _. refl) (blind_attr version) ts ∙ by_got (maybe (begins_if is_any_word) (attr_at version) ts)
   where
     by_got : (x : Got (Option Attr)) → got_without (option_map same) x ≡ got_without same x
     by_got (Ok x) = ap (λ (o : Option Attr). Ok (o, unplaced_all x.1)) (option_same x.0)
     by_got (Err d) = refl
 
-blind_attr_for : (attrs : Bool) (ty : Option Ty) → Blind same (attr_for attrs ty)
-blind_attr_for true (Some Ptr) = blind_optional_attr
-blind_attr_for true (Some (Int width)) = blind_given same None refl
-blind_attr_for true None = blind_given same None refl
-blind_attr_for false ty = blind_given same None refl
+blind_attr_for : (attrs : Option ℕ) (ty : Option Ty) → Blind same (attr_for attrs ty)
+blind_attr_for (Some version) (Some Ptr) = blind_optional_attr version
+blind_attr_for (Some version) (Some (Int width)) = blind_given same None refl
+blind_attr_for (Some version) None = blind_given same None refl
+blind_attr_for None ty = blind_given same None refl
 
 blind_param_register : (r : ℕ) → Blind named_without (param_register_at r)
 unfolding param_register_at
 blind_param_register r = blind_limited named_without (counted r most_registers) want_local (λ l. local_blind l.form l.at)
 
-blind_param : (attrs : Bool) (r : ℕ) → Blind param_without (param_at attrs r)
+blind_param : (attrs : Option ℕ) (r : ℕ) → Blind param_without (param_at attrs r)
 unfolding param_at
 blind_param attrs r = blind_mapped (each_of same (each_of same named_without)) param_without param_of (both type_at (λ ty. both (attr_for attrs (Some ty)) (λ _. param_register_at r)))
     (blind_both same (each_of same named_without) type_at (λ ty. both (attr_for attrs (Some ty)) (λ _. param_register_at r)) (blind_among types)
     (λ ty. blind_both same named_without (attr_for attrs (Some ty)) (λ _. param_register_at r) (blind_attr_for attrs (Some ty)) (λ _. blind_param_register r) (λ _ _. refl)) (λ _ _. refl)) (λ _. refl)
 
-blind_next_param : (attrs : Bool) (r : ℕ) → Blind param_without (next_param_at attrs r)
+blind_next_param : (attrs : Option ℕ) (r : ℕ) → Blind param_without (next_param_at attrs r)
 unfolding next_param_at
 blind_next_param attrs r = blind_comma param_without (param_at attrs r) (blind_param attrs r)
 
-blind_more_params : (attrs : Bool) (r : ℕ) → Blind (map param_without) (more_params_at attrs r)
+blind_more_params : (attrs : Option ℕ) (r : ℕ) → Blind (map param_without) (more_params_at attrs r)
 unfolding more_params_at
 blind_more_params attrs r = blind_many param_without (begins_if (is_mark Comma)) (next_param_at attrs) one_more (λ _. refl) (blind_next_param attrs) (λ _ _. refl) r
 
-blind_params : (attrs : Bool) (r : ℕ) → Blind (map param_without) (params_at attrs r)
+blind_params : (attrs : Option ℕ) (r : ℕ) → Blind (map param_without) (params_at attrs r)
 unfolding params_at
 blind_params attrs r = blind_mapped (each_of param_without (map param_without)) (map param_without) cons_of (both (param_at attrs r) (λ _. more_params_at attrs (suc r)))
     (blind_both param_without (map param_without) (param_at attrs r) (λ _. more_params_at attrs (suc r)) (blind_param attrs r) (λ _. blind_more_params attrs (suc r)) (λ _ _. refl)) (λ _. refl)
 
-blind_some_params : Blind (map param_without) some_params_at
+blind_some_params : (version : ℕ) → Blind (map param_without) (some_params_at version)
 unfolding some_params_at
-blind_some_params = blind_listed param_without is_any_word (params_at true 0) (blind_params true 0)
+blind_some_params version = blind_listed param_without is_any_word (params_at (Some version) 0) (blind_params (Some version) 0)
 
-blind_function_params : Blind (map param_without) function_params_at
+blind_function_params : (version : ℕ) → Blind (map param_without) (function_params_at version)
 unfolding function_params_at
-blind_function_params = blind_round (map param_without) some_params_at blind_some_params
+blind_function_params version = blind_round (map param_without) (some_params_at version) (blind_some_params version)
 
 blind_round_params : (r : ℕ) → Blind (map param_without) (round_params_at r)
 unfolding round_params_at
-blind_round_params r = blind_round (map param_without) (params_at false r) (blind_params false r)
+blind_round_params r = blind_round (map param_without) (params_at None r) (blind_params None r)
 
 blind_block_params : (r : ℕ) → Blind (map param_without) (block_params_at r)
 unfolding block_params_at
@@ -510,27 +510,27 @@ sum_same : {A : Type 0} (f : A → A) (n : A → ℕ) → ((a : A) → n (f a) �
 sum_same f n h [] = refl
 sum_same f n h (x ∷ xs) = sum_by-cons n (f x) (map f xs) ∙ ap (λ (z : ℕ). z + sum_by n (map f xs)) (h x) ∙ ap (λ (z : ℕ). n x + z) (sum_same f n h xs) ∙ sym (sum_by-cons n x xs)
 
-blind_insts : (n : ℕ × ℕ) → Blind (map inst_without) (insts_at n)
+blind_insts : (version : ℕ) → (n : ℕ × ℕ) → Blind (map inst_without) (insts_at version n)
 unfolding insts_at
-blind_insts n = blind_many inst_without (begins_if is_inst) (λ (m : ℕ × ℕ). inst_at m.0 m.1) after_inst (λ _. refl) (λ m. blind_inst m.0 m.1) (λ m i. ap (λ (z : ℕ). (suc m.0, m.1 + z)) (defines_same i)) n
+blind_insts version n = blind_many inst_without (begins_if is_inst) (λ (m : ℕ × ℕ). inst_at version m.0 m.1) after_inst (λ _. refl) (λ m. blind_inst version m.0 m.1) (λ m i. ap (λ (z : ℕ). (suc m.0, m.1 + z)) (defines_same i)) n
 
 blind_head : (r : ℕ) → Blind (map param_without) (head_at r)
 unfolding head_at
 blind_head r = blind_before (map param_without) (block_params_at r) Colon (blind_block_params r)
 
-abbrev body_at : ℕ × ℕ → ℕ → Reader (List Inst × Term)
-body_at n count = both (insts_at (n.0, n.1 + count)) (λ insts. term_at (n.0 + length insts))
+abbrev body_at : (version : ℕ) → ℕ × ℕ → ℕ → Reader (List Inst × Term)
+body_at version n count = both (insts_at version (n.0, n.1 + count)) (λ insts. term_at (n.0 + length insts))
 
-blind_body : (n : ℕ × ℕ) (count : ℕ) → Blind (each_of (map inst_without) term_without) (body_at n count)
-blind_body n count = blind_both (map inst_without) term_without (insts_at (n.0, n.1 + count)) (λ insts. term_at (n.0 + length insts)) (blind_insts (n.0, n.1 + count)) (λ insts. blind_term (n.0 + length insts))
+blind_body : (version : ℕ) → (n : ℕ × ℕ) (count : ℕ) → Blind (each_of (map inst_without) term_without) (body_at version n count)
+blind_body version n count = blind_both (map inst_without) term_without (insts_at version (n.0, n.1 + count)) (λ insts. term_at (n.0 + length insts)) (blind_insts version (n.0, n.1 + count)) (λ insts. blind_term (n.0 + length insts))
     (λ insts ts. ap (λ (z : ℕ). term_at (n.0 + z) ts) (length-map insts inst_without))
 
-blind_block : (n : ℕ × ℕ) → Blind block_without (block_at n)
+blind_block : (version : ℕ) → (n : ℕ × ℕ) → Blind block_without (block_at version n)
 unfolding block_at
-blind_block n = blind_mapped (each_of named_without (each_of (map param_without) (each_of (map inst_without) term_without))) block_without block_of (both (one want_label) (λ _. both (head_at n.1) (λ params. body_at n (length params))))
-    (blind_both named_without (each_of (map param_without) (each_of (map inst_without) term_without)) (one want_label) (λ _. both (head_at n.1) (λ params. body_at n (length params))) blind_label
-    (λ _. blind_both (map param_without) (each_of (map inst_without) term_without) (head_at n.1) (λ params. body_at n (length params)) (blind_head n.1) (λ params. blind_body n (length params))
-    (λ params ts. ap (λ (z : ℕ). body_at n z ts) (length-map params param_without))) (λ _ _. refl)) (λ _. refl)
+blind_block version n = blind_mapped (each_of named_without (each_of (map param_without) (each_of (map inst_without) term_without))) block_without block_of (both (one want_label) (λ _. both (head_at n.1) (λ params. body_at version n (length params))))
+    (blind_both named_without (each_of (map param_without) (each_of (map inst_without) term_without)) (one want_label) (λ _. both (head_at n.1) (λ params. body_at version n (length params))) blind_label
+    (λ _. blind_both (map param_without) (each_of (map inst_without) term_without) (head_at n.1) (λ params. body_at version n (length params)) (blind_head n.1) (λ params. blind_body version n (length params))
+    (λ params ts. ap (λ (z : ℕ). body_at version n z ts) (length-map params param_without))) (λ _ _. refl)) (λ _. refl)
 
 block_count : (b : Block) → block_instructions (block_without b) ≡ block_instructions b
 block_count b = ap (λ (z : ℕ). z + 1) (length-map b.insts inst_without)
@@ -541,64 +541,77 @@ block_defines b = ap (λ (z : ℕ). z + sum_by definitions (map inst_without b.i
 after_block_same : (n : ℕ × ℕ) (b : Block) → after_block n (block_without b) ≡ after_block n b
 after_block_same n b = ap (λ (z : ℕ). (n.0 + z, n.1 + block_registers (block_without b))) (block_count b) ∙ ap (λ (z : ℕ). (n.0 + block_instructions b, n.1 + z)) (block_defines b)
 
-blind_more_blocks : (n : ℕ × ℕ) → Blind (map block_without) (more_blocks_at n)
+blind_more_blocks : (version : ℕ) → (n : ℕ × ℕ) → Blind (map block_without) (more_blocks_at version n)
 unfolding more_blocks_at
-blind_more_blocks n = blind_many block_without (begins_if is_any_word) block_at after_block (λ _. refl) blind_block after_block_same n
+blind_more_blocks version n = blind_many block_without (begins_if is_any_word) (block_at version) after_block (λ _. refl) (blind_block version) after_block_same n
 
-blind_blocks : (n : ℕ × ℕ) → Blind (map block_without) (blocks_at n)
+blind_blocks : (version : ℕ) → (n : ℕ × ℕ) → Blind (map block_without) (blocks_at version n)
 unfolding blocks_at
-blind_blocks n = blind_mapped (each_of block_without (map block_without)) (map block_without) cons_of (both (block_at n) (λ b. more_blocks_at (after_block n b)))
-    (blind_both block_without (map block_without) (block_at n) (λ b. more_blocks_at (after_block n b)) (blind_block n) (λ b. blind_more_blocks (after_block n b)) (λ b ts. ap (λ (z : ℕ × ℕ). more_blocks_at z ts) (after_block_same n b))) (λ _. refl)
+blind_blocks version n = blind_mapped (each_of block_without (map block_without)) (map block_without) cons_of (both (block_at version n) (λ b. more_blocks_at version (after_block n b)))
+    (blind_both block_without (map block_without) (block_at version n) (λ b. more_blocks_at version (after_block n b)) (blind_block version n) (λ b. blind_more_blocks version (after_block n b)) (λ b ts. ap (λ (z : ℕ × ℕ). more_blocks_at version z ts) (after_block_same n b))) (λ _. refl)
 
 -- ---- functions and programs
 
-blind_result_ty : Blind same result_ty_at
+blind_result_ty : (version : ℕ) → Blind same (result_ty_at version)
 unfolding result_ty_at
-blind_result_ty = blind_mapped (each_of same same) same result_of (both (one (want_among results)) (attr_for true)) (blind_both same same (one (want_among results)) (attr_for true) (blind_among results) (blind_attr_for true) (λ _ _. refl)) (λ _. refl)
+blind_result_ty version = blind_mapped (each_of same same) same result_of (both (one (want_among results)) (attr_for (Some version))) (blind_both same same (one (want_among results)) (attr_for (Some version)) (blind_among results) (blind_attr_for (Some version)) (λ _ _. refl)) (λ _. refl)
 
 blind_func : (n : ℕ) → Blind same (func_at n)
 unfolding func_at
 blind_func n = blind_limited same (counted n most_functions) (want_if (is_word (codes "func"))) (λ l. result_same (want_if (is_word (codes "func")) l))
 
-blind_arrow_result : Blind same arrow_result_at
+blind_arrow_result : (version : ℕ) → Blind same (arrow_result_at version)
 unfolding arrow_result_at
-blind_arrow_result = blind_behind same (mapped first_of (both result_ty_at (λ _. mark_at OpenBrace))) Arrow (blind_before same result_ty_at OpenBrace blind_result_ty)
+blind_arrow_result version = blind_behind same (mapped first_of (both (result_ty_at version) (λ _. mark_at OpenBrace))) Arrow (blind_before same (result_ty_at version) OpenBrace (blind_result_ty version))
 
-blind_closed_blocks : (n : ℕ × ℕ) → Blind (map block_without) (closed_blocks_at n)
+blind_closed_blocks : (version : ℕ) → (n : ℕ × ℕ) → Blind (map block_without) (closed_blocks_at version n)
 unfolding closed_blocks_at
-blind_closed_blocks n = blind_before (map block_without) (blocks_at n) CloseBrace (blind_blocks n)
+blind_closed_blocks version n = blind_before (map block_without) (blocks_at version n) CloseBrace (blind_blocks version n)
 
-abbrev rest_at : ℕ × ℕ → ℕ → Reader (ResultTy × List Block)
-rest_at n count = both arrow_result_at (λ _. closed_blocks_at (n.1, count))
+abbrev rest_at : (version : ℕ) → ℕ × ℕ → ℕ → Reader (ResultTy × List Block)
+rest_at version n count = both (arrow_result_at version) (λ _. closed_blocks_at version (n.1, count))
 
-blind_rest : (n : ℕ × ℕ) (count : ℕ) → Blind (each_of same (map block_without)) (rest_at n count)
-blind_rest n count = blind_both same (map block_without) arrow_result_at (λ _. closed_blocks_at (n.1, count)) blind_arrow_result (λ _. blind_closed_blocks (n.1, count)) (λ _ _. refl)
+blind_rest : (version : ℕ) → (n : ℕ × ℕ) (count : ℕ) → Blind (each_of same (map block_without)) (rest_at version n count)
+blind_rest version n count = blind_both same (map block_without) (arrow_result_at version) (λ _. closed_blocks_at version (n.1, count)) (blind_arrow_result version) (λ _. blind_closed_blocks version (n.1, count)) (λ _ _. refl)
 
-blind_function : (n : ℕ × ℕ) → Blind function_without (function_at n)
+blind_function : (version : ℕ) → (n : ℕ × ℕ) → Blind function_without (function_at version n)
 unfolding function_at
-blind_function n = blind_mapped (each_of same (each_of named_without (each_of (map param_without) (each_of same (map block_without))))) function_without function_of
-    (both (func_at n.0) (λ _. both (one want_global) (λ _. both function_params_at (λ params. rest_at n (length params)))))
-    (blind_both same (each_of named_without (each_of (map param_without) (each_of same (map block_without)))) (func_at n.0) (λ _. both (one want_global) (λ _. both function_params_at (λ params. rest_at n (length params)))) (blind_func n.0)
-    (λ _. blind_both named_without (each_of (map param_without) (each_of same (map block_without))) (one want_global) (λ _. both function_params_at (λ params. rest_at n (length params))) blind_global
-    (λ _. blind_both (map param_without) (each_of same (map block_without)) function_params_at (λ params. rest_at n (length params)) blind_function_params (λ params. blind_rest n (length params))
-    (λ params ts. ap (λ (z : ℕ). rest_at n z ts) (length-map params param_without))) (λ _ _. refl)) (λ _ _. refl)) (λ _. refl)
+blind_function version n = blind_mapped (each_of same (each_of named_without (each_of (map param_without) (each_of same (map block_without))))) function_without function_of
+    (both (func_at n.0) (λ _. both (one want_global) (λ _. both (function_params_at version) (λ params. rest_at version n (length params)))))
+    (blind_both same (each_of named_without (each_of (map param_without) (each_of same (map block_without)))) (func_at n.0) (λ _. both (one want_global) (λ _. both (function_params_at version) (λ params. rest_at version n (length params)))) (blind_func n.0)
+    (λ _. blind_both named_without (each_of (map param_without) (each_of same (map block_without))) (one want_global) (λ _. both (function_params_at version) (λ params. rest_at version n (length params))) blind_global
+    (λ _. blind_both (map param_without) (each_of same (map block_without)) (function_params_at version) (λ params. rest_at version n (length params)) (blind_function_params version) (λ params. blind_rest version n (length params))
+    (λ params ts. ap (λ (z : ℕ). rest_at version n z ts) (length-map params param_without))) (λ _ _. refl)) (λ _ _. refl)) (λ _. refl)
 
 after_function_same : (n : ℕ × ℕ) (f : Function) → after_function n (function_without f) ≡ after_function n f
 after_function_same n f = ap (λ (z : ℕ). (suc n.0, n.1 + z)) (sum_same block_without block_instructions block_count f.blocks)
 
-blind_more_functions : (n : ℕ × ℕ) → Blind (map function_without) (more_functions_at n)
+blind_more_functions : (version : ℕ) → (n : ℕ × ℕ) → Blind (map function_without) (more_functions_at version n)
 unfolding more_functions_at
-blind_more_functions n = blind_many function_without (begins_if (is_word (codes "func"))) function_at after_function (λ _. refl) blind_function after_function_same n
+blind_more_functions version n = blind_many function_without (begins_if (is_word (codes "func"))) (function_at version) after_function (λ _. refl) (blind_function version) after_function_same n
 
-blind_functions : Blind (map function_without) functions_at
+blind_functions : (version : ℕ) → Blind (map function_without) (functions_at version)
 unfolding functions_at
-blind_functions = blind_mapped (each_of function_without (map function_without)) (map function_without) cons_of (both (function_at (0, 0)) (λ f. more_functions_at (after_function (0, 0) f)))
-    (blind_both function_without (map function_without) (function_at (0, 0)) (λ f. more_functions_at (after_function (0, 0) f)) (blind_function (0, 0)) (λ f. blind_more_functions (after_function (0, 0) f))
-    (λ f ts. ap (λ (z : ℕ × ℕ). more_functions_at z ts) (after_function_same (0, 0) f))) (λ _. refl)
+blind_functions version = blind_mapped (each_of function_without (map function_without)) (map function_without) cons_of (both (function_at version (0, 0)) (λ f. more_functions_at version (after_function (0, 0) f)))
+    (blind_both function_without (map function_without) (function_at version (0, 0)) (λ f. more_functions_at version (after_function (0, 0) f)) (blind_function version (0, 0)) (λ f. blind_more_functions version (after_function (0, 0) f))
+    (λ f ts. ap (λ (z : ℕ × ℕ). more_functions_at version z ts) (after_function_same (0, 0) f))) (λ _. refl)
 
-pub blind_program : Blind (map function_without) program_at
+version_blind : (f : Form) → version_in f ≡ result_without same (version_in f)
+version_blind f = result_same (version_in f)
+
+blind_version : Blind same (one want_version)
+blind_version = blind_one same want_version (λ l. version_blind l.form)
+
+abbrev pub versioned_without : ℕ × List Function → ℕ × List Function
+versioned_without = each_of same (map function_without)
+
+abbrev versioned_at : Reader (ℕ × List Function)
+versioned_at = both (one want_version) (λ version. functions_at version)
+
+blind_versioned : Blind versioned_without versioned_at
+blind_versioned = blind_both same (map function_without) (one want_version) (λ version. functions_at version) blind_version (λ version. blind_functions version) (λ _ _. refl)
+
+pub blind_program : Blind versioned_without program_at
 unfolding program_at
-blind_program = blind_mapped (each_of same (map function_without)) (map function_without) second (both (one (want_if (is_word (codes "bir")))) (λ _. mapped second (both (one (want_if is_one)) (λ _. functions_at))))
-    (blind_both same (map function_without) (one (want_if (is_word (codes "bir")))) (λ _. mapped second (both (one (want_if is_one)) (λ _. functions_at))) (blind_if (is_word (codes "bir")))
-    (λ _. blind_mapped (each_of same (map function_without)) (map function_without) second (both (one (want_if is_one)) (λ _. functions_at))
-    (blind_both same (map function_without) (one (want_if is_one)) (λ _. functions_at) (blind_if is_one) (λ _. blind_functions) (λ _ _. refl)) (λ _. refl)) (λ _ _. refl)) (λ _. refl)
+blind_program = blind_mapped (each_of same versioned_without) versioned_without second (both (one (want_if (is_word (codes "bir")))) (λ _. versioned_at))
+    (blind_both same versioned_without (one (want_if (is_word (codes "bir")))) (λ _. versioned_at) (blind_if (is_word (codes "bir"))) (λ _. blind_versioned) (λ _ _. refl)) (λ _. refl)

@@ -16,7 +16,8 @@ use Rattle.ir_reader.specs.Blocks.{program_at}
 use Rattle.ir_reader.specs.Laws.{with_end}
 use Rattle.ir_reader.specs.Readings.{most_bytes, IsProgramOf}
 use Rattle.ir_reader.proofs.Blind.{unplaced_all, whole_without, blind_all}
-use Rattle.ir_reader.proofs.BlindParts.{blind_program}
+use Rattle.ir_reader.proofs.BlindParts.{versioned_without, blind_program}
+use Rattle.ir_reader.proofs.BlockParts.{Versioned}
 use Rattle.ir_reader.proofs.Possible.{is_program}
 use Rattle.ir_reader.proofs.Verdicts.{read_as, read_is}
 
@@ -40,16 +41,13 @@ spelled_forms [] (l ∷ ls) h = absurd h
 spelled_forms (a ∷ asked) [] h = absurd h
 spelled_forms (a ∷ asked) (l ∷ ls) h = ap (λ (f : Form). f ∷ forms_in ls) h.0.0 ∙ ap (λ (z : List Form). a.form ∷ z) (spelled_forms asked ls h.2)
 
-abbrev functions_without : List Function → List Function
-functions_without = map function_without
-
 abbrev Whole : Type 0
-Whole = Result (List Function) (Cause × List Lex)
+Whole = Result Versioned (Cause × List Lex)
 
-same_ok : (x y : List Function) → (let k : Whole = Ok x in k) ≡ Ok y → x ≡ y
+same_ok : (x y : Versioned) → (let k : Whole = Ok x in k) ≡ Ok y → x ≡ y
 same_ok x y e = cc
 
-apart : (d : Cause × List Lex) (y : List Function) → (let k : Whole = Err d in k) ≡ Ok y → ⊥
+apart : (d : Cause × List Lex) (y : Versioned) → (let k : Whole = Err d in k) ≡ Ok y → ⊥
 apart d y e = cc
 
 pub reads_canonical : (text : List ℕ) (p : Program) → IsProgramOf text p → length (canonical p) ≤ most_bytes → (q : Program) × IsProgramOf (canonical p) q × SameUpToPlaces q p
@@ -67,11 +65,11 @@ reads_canonical text p h le = by_answer (all_of program_at again) refl
     alike : unplaced_all again ≡ unplaced_all first
     alike = unplaced_forms again ∙ ap at_start (lexes_forms (canonical p) cut.tokens ∙ cut.are ∙ sym (spelled_forms (spell p) first h.reads.1)) ∙ sym (unplaced_forms first)
 
-    answers : whole_without functions_without (all_of program_at again) ≡ Ok (functions_without p.functions)
-    answers = sym (blind_all functions_without program_at blind_program again) ∙ ap (all_of program_at) alike ∙ blind_all functions_without program_at blind_program first ∙ ap (whole_without functions_without) (read_as text p h)
+    answers : whole_without versioned_without (all_of program_at again) ≡ Ok (versioned_without (p.version, p.functions))
+    answers = sym (blind_all versioned_without program_at blind_program again) ∙ ap (all_of program_at) alike ∙ blind_all versioned_without program_at blind_program first ∙ ap (whole_without versioned_without) (read_as text p h)
 
     by_answer : (x : Whole) → all_of program_at again ≡ x → (q : Program) × IsProgramOf (canonical p) q × SameUpToPlaces q p
     by_answer (Ok fs) e =
-        let fits : functions_without fs ≡ functions_without p.functions = same_ok (functions_without fs) (functions_without p.functions) (sym (ap (whole_without functions_without) e) ∙ answers) in
-        (with_end (length (canonical p)) fs, read_is (canonical p) cut.tokens fs le cut.lexed e, ap (λ (z : List Function). with_end 0 z) fits)
-    by_answer (Err d) e = absurd (apart (d.0, unplaced_all d.1) (functions_without p.functions) (sym (ap (whole_without functions_without) e) ∙ answers))
+        let fits : versioned_without fs ≡ versioned_without (p.version, p.functions) = same_ok (versioned_without fs) (versioned_without (p.version, p.functions)) (sym (ap (whole_without versioned_without) e) ∙ answers) in
+        (with_end (length (canonical p)) fs, read_is (canonical p) cut.tokens fs le cut.lexed e, ap (λ (z : Versioned). with_end 0 z) fits)
+    by_answer (Err d) e = absurd (apart (d.0, unplaced_all d.1) (versioned_without (p.version, p.functions)) (sym (ap (whole_without versioned_without) e) ∙ answers))

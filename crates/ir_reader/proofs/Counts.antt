@@ -29,12 +29,12 @@ counted_below n most e = by_test (nat_lt n most) refl e
     by_test true t h = ltb-true n most t
     by_test false t h = absurd cc
 
-pub param_below : (attrs : Bool) (n : ℕ) (ts : List Lex) (p : Param) (rest : List Lex) → param_at attrs n ts ≡ Ok (p, rest) → n < most_registers
+pub param_below : (attrs : Option ℕ) (n : ℕ) (ts : List Lex) (p : Param) (rest : List Lex) → param_at attrs n ts ≡ Ok (p, rest) → n < most_registers
 param_below attrs n ts p rest e =
     let t = (param_phrase attrs n).sound ts p rest e in
     counted_below n most_registers (spelled_fault (type_token p.ty ∷ attr_tokens p.attr) (param_register n p) [] t.front t.spelled)
 
-pub next_param_below : (attrs : Bool) (n : ℕ) (ts : List Lex) (p : Param) (rest : List Lex) → next_param_at attrs n ts ≡ Ok (p, rest) → n < most_registers
+pub next_param_below : (attrs : Option ℕ) (n : ℕ) (ts : List Lex) (p : Param) (rest : List Lex) → next_param_at attrs n ts ≡ Ok (p, rest) → n < most_registers
 next_param_below attrs n ts p rest e =
     let t = (next_param_phrase attrs n).sound ts p rest e in
     counted_below n most_registers (spelled_fault (plain comma ∷ type_token p.ty ∷ attr_tokens p.attr) (param_register n p) [] t.front t.spelled)
@@ -45,8 +45,8 @@ either_none : (x y : Option Limit) → either x y ≡ None → (x ≡ None) × (
 either_none None y e = (refl, e)
 either_none (Some limit) y e = absurd cc
 
-pub inst_below : (n r : ℕ) (ts : List Lex) (i : Inst) (rest : List Lex) → inst_at n r ts ≡ Ok (i, rest) → n < most_instructions
-inst_below n r ts i rest e = let t = (inst_phrase n r).sound ts i rest e in by_dest i.dest t.front t.spelled
+pub inst_below : (version : ℕ) → (n r : ℕ) (ts : List Lex) (i : Inst) (rest : List Lex) → inst_at version n r ts ≡ Ok (i, rest) → n < most_instructions
+inst_below version n r ts i rest e = let t = (inst_phrase version n r).sound ts i rest e in by_dest i.dest t.front t.spelled
   where
     by_dest : (d : Option Named) (front : List Lex) → Spelled (inst_tokens n r d i.at i.op) front → n < most_instructions
     by_dest None [] h = absurd h
@@ -54,8 +54,8 @@ inst_below n r ts i rest e = let t = (inst_phrase n r).sound ts i rest e in by_d
     by_dest (Some x) [] h = absurd h
     by_dest (Some x) (l ∷ front) h = counted_below n most_instructions (either_none (counted n most_instructions) (counted r most_registers) h.1).0
 
-pub register_below : (n r : ℕ) (ts : List Lex) (i : Inst) (rest : List Lex) → inst_at n r ts ≡ Ok (i, rest) → is_some i.dest ≡ true → r < most_registers
-register_below n r ts i rest e defines = let t = (inst_phrase n r).sound ts i rest e in by_dest i.dest t.front t.spelled defines
+pub register_below : (version : ℕ) → (n r : ℕ) (ts : List Lex) (i : Inst) (rest : List Lex) → inst_at version n r ts ≡ Ok (i, rest) → is_some i.dest ≡ true → r < most_registers
+register_below version n r ts i rest e defines = let t = (inst_phrase version n r).sound ts i rest e in by_dest i.dest t.front t.spelled defines
   where
     by_dest : (d : Option Named) (front : List Lex) → Spelled (inst_tokens n r d i.at i.op) front → is_some d ≡ true → r < most_registers
     by_dest None front h some = absurd cc
@@ -98,8 +98,8 @@ round_within : (r : ℕ) (p : Param) (ps : List Param) (ls : List Lex) → Spell
 round_within r p ps [] h = absurd h
 round_within r p ps (l ∷ ls) h = let parts = spelled_parts (params_tokens r (p ∷ ps)) (plain close_round ∷ []) ls h.2 in params_within r p ps parts.0.0 parts.0.1
 
-pub function_params_within : (ts : List Lex) (ps : List Param) (rest : List Lex) → function_params_at ts ≡ Ok (ps, rest) → length ps ≤ most_registers
-function_params_within ts ps rest e = let t = function_params_phrase.sound ts ps rest e in by_params ps t.front t.spelled
+pub function_params_within : (version : ℕ) → (ts : List Lex) (ps : List Param) (rest : List Lex) → function_params_at version ts ≡ Ok (ps, rest) → length ps ≤ most_registers
+function_params_within version ts ps rest e = let t = (function_params_phrase version).sound ts ps rest e in by_params ps t.front t.spelled
   where
     by_params : (qs : List Param) (front : List Lex) → Spelled (round_params 0 qs) front → length qs ≤ most_registers
     by_params [] front h = lit≤ tt

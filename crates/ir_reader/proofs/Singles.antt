@@ -1,18 +1,19 @@
 -- What is read from one token.
 use Rattle.std.proofs.Common.{◌≡◌, ℕ, Bool, true, false, cond, List, [], ◌∷◌, Option, Some, None, Result, Ok, Err, refl, sym, ap, subst, ◌∙◌}
-use Rattle.std.specs.Prelude.{nat_lt}
+use Rattle.std.specs.Prelude.{nat_lt, nat_le}
+use Rattle.std.proofs.lemmas.Bool.{le-leb, leb-true}
 use Rattle.std.specs.Str.{bytes_eq}
 use Rattle.std.specs.List.{AllByRecursion}
 use Rattle.std.proofs.lemmas.Slice.Eq.{bytes_eq-Decides}
 use Rattle.perm_table.specs.declared.RetagKind.{RetagKind}
-use Rattle.perm_table.specs.declared.RetagKind.TheVariants.{Mut, Cell, Shr, Boxed}
+use Rattle.perm_table.specs.declared.RetagKind.TheVariants.{Mut, Cell, Shr, Boxed, ShrCell}
 use Rattle.ir_ast.specs.Words.{modulus}
 use Rattle.ir_ast.specs.Tokens.{Form, Lex, Asked, Fits, Spelled, plain, placed, amount}
 use Rattle.ir_ast.specs.Tokens.Form.{word, local, global, number, open_round, close_round, open_brace, close_brace, comma, colon, equals, arrow}
 use Rattle.ir_ast.specs.Tokens.Limit.{of_number}
 use Rattle.ir_ast.specs.Keywords.{width_word, type_word, result_word, kind_word, cond_word, modify_word}
 use Rattle.ir_ast.specs.Grammar.{width_token, type_token, kind_token, result_token, register, function_name, label, val_token}
-use Rattle.ir_ast.specs.Shapes.{IsVal}
+use Rattle.ir_ast.specs.Shapes.{HasKind, IsVal}
 use Rattle.ir_ast.specs.declared.types.Width.{Width}
 use Rattle.ir_ast.specs.declared.types.Width.TheVariants.{W8, W16, W32, W64}
 use Rattle.ir_ast.specs.declared.types.Ty.{Ty}
@@ -31,7 +32,7 @@ use Rattle.phrase.specs.declared.Cause.TheVariants.{Unexpected, NumberTooLarge}
 use Rattle.phrase.proofs.Phrase.{Sample, Phrase, one_phrase, verdict}
 use Rattle.ir_reader.specs.declared.marks.Mark.{Mark}
 use Rattle.ir_reader.specs.declared.marks.Mark.TheVariants.{OpenRound, CloseRound, OpenBrace, CloseBrace, Comma, Colon, Equals, Arrow}
-use Rattle.ir_reader.specs.Tables.{lookup, widths, types, results, kinds, conds, modifiers}
+use Rattle.ir_reader.specs.Tables.{lookup, widths, types, results, newer_kinds, kinds, conds, modifiers}
 use Rattle.ir_reader.specs.Wants.{want_if, mark_form, is_mark, is_word, local_at, want_local, global_at, want_global, label_at, want_label, or_unexpected, word_among, want_among, with_place, want_placed, amount_at, want_amount, val_at, want_val}
 use Rattle.ir_reader.specs.Parts.{mark_at}
 
@@ -212,14 +213,22 @@ result_phrase = among_phrase false result_word Any results None tt result_rows (
 pub placed_result_phrase : Phrase {A = Option Ty × ℕ} Any (λ x. result_token x.0 x.1 ∷ []) Any (one (want_placed results))
 placed_result_phrase = placed_phrase result_word results None result_rows result_found
 
-kind_found : (k : RetagKind) → lookup kinds (kind_word k) ≡ Some k
-kind_found Mut = refl
-kind_found Cell = refl
-kind_found Shr = refl
-kind_found Boxed = refl
+kind_rows : (version : ℕ) → AreRows kind_word (HasKind version) (kinds version)
+kind_rows version = ((refl, tt), ((refl, tt), ((refl, tt), ((refl, tt), newer (nat_le 2 version) refl))))
+  where
+    newer : (b : Bool) → nat_le 2 version ≡ b → AreRows kind_word (HasKind version) (newer_kinds b)
+    newer true e = ((refl, leb-true 2 version e), tt)
+    newer false e = tt
 
-pub kind_phrase : Phrase {A = RetagKind} Any (λ k. kind_token k ∷ []) Any (one (want_among kinds))
-kind_phrase = among_phrase false kind_word Any kinds Mut tt ((refl, tt), ((refl, tt), ((refl, tt), ((refl, tt), tt)))) (λ k _. kind_found k)
+kind_found : (version : ℕ) (k : RetagKind) → HasKind version k → lookup (kinds version) (kind_word k) ≡ Some k
+kind_found version Mut h = refl
+kind_found version Cell h = refl
+kind_found version Shr h = refl
+kind_found version Boxed h = refl
+kind_found version ShrCell h = rw (le-leb 2 version h) refl
+
+pub kind_phrase : (version : ℕ) → Phrase (HasKind version) (λ k. kind_token k ∷ []) Any (one (want_among (kinds version)))
+kind_phrase version = among_phrase false kind_word (HasKind version) (kinds version) Mut tt (kind_rows version) (kind_found version)
 
 cond_found : (c : Cond) → lookup conds (cond_word c) ≡ Some c
 cond_found Eq = refl

@@ -24,6 +24,7 @@ use Rattle.ir_reader.specs.declared.fault.ReadFault.{ReadFault}
 use Rattle.ir_reader.specs.declared.fault.ReadFault.TheVariants.{TooLarge, BadByte, IntToPtr, Unexpected, NumberTooLarge, NoMemory}
 use Rattle.ir_reader.proofs.Singles.{word_is}
 use Rattle.ir_reader.proofs.AfterEquals.{operation_behind, operation_next}
+use Rattle.ir_reader.proofs.BlockParts.{Versioned}
 use Rattle.ir_reader.proofs.WholeParts.{all_read, only_read, refuses, is_told}
 
 -- ---- the tokens of a text
@@ -83,7 +84,7 @@ is_int_to_ptr ts rest r e = by_rest rest r (both_true (ends_equal false (front_o
 
 -- ---- what is told of a text
 
-abbrev told : ℕ → List Lex → Result (List Function) (Cause × List Lex) → ReadFault
+abbrev told : ℕ → List Lex → Result Versioned (Cause × List Lex) → ReadFault
 told end ts (Ok fs) = NoMemory
 told end ts (Err d) = fault_at end (front_of ts d.1) d.0 d.1
 
@@ -149,7 +150,7 @@ told_is text NoMemory h = absurd h
 pub one_refusal : (text : List ℕ) (e f : ReadFault) → Refuses text e → Refuses text f → e ≡ f
 one_refusal text e f h k = told_is text e h ∙ sym (told_is text f k)
 
-pub read_as : (text : List ℕ) (p : Program) (h : IsProgramOf text p) → all_of program_at (lexes text h.tokens) ≡ Ok p.functions
+pub read_as : (text : List ℕ) (p : Program) (h : IsProgramOf text p) → all_of program_at (lexes text h.tokens) ≡ Ok (p.version, p.functions)
 read_as text p h = only_read (lexes text h.tokens) p h.reads
 
 nothing_told : (text : List ℕ) (p : Program) → IsProgramOf text p → fault_of text ≡ NoMemory
@@ -158,22 +159,25 @@ nothing_told text p h = fault_small text (good h.tokens) h.small h.lexed ∙ ap 
 pub not_both : (text : List ℕ) (p : Program) (f : ReadFault) → IsProgramOf text p → Refuses text f → ⊥
 not_both text p f h k = subst (Refuses text) (told_is text f k ∙ nothing_told text p h) k
 
-same_functions : (x y : List Function) → (let k : Result (List Function) (Cause × List Lex) = Ok x in k) ≡ Ok y → x ≡ y
-same_functions x y e = cc
+same_versioned : (x y : Versioned) → (let k : Result Versioned (Cause × List Lex) = Ok x in k) ≡ Ok y → x ≡ y
+same_versioned x y e = cc
 
-same_program : (p q : Program) → p.functions ≡ q.functions → p.«end» ≡ q.«end» → p ≡ q
-same_program p q f e = ap (λ (z : List Function). with_end p.«end» z) f ∙ ap (λ (z : ℕ). with_end z q.functions) e
+abbrev versioned : Program → Versioned
+versioned p = (p.version, p.functions)
+
+same_program : (p q : Program) → versioned p ≡ versioned q → p.«end» ≡ q.«end» → p ≡ q
+same_program p q f e = ap (λ (z : Versioned). with_end p.«end» z) f ∙ ap (λ (z : ℕ). with_end z (versioned q)) e
 
 pub one_program : (text : List ℕ) (p q : Program) → IsProgramOf text p → IsProgramOf text q → p ≡ q
 one_program text p q a b =
     let tokens = same_tokens text a.tokens b.tokens a.lexed b.lexed in
     let same = sym (read_as text p a) ∙ ap (λ (z : List Token). all_of program_at (lexes text z)) tokens ∙ read_as text q b in
-    same_program p q (same_functions p.functions q.functions same) (a.ends ∙ sym b.ends)
+    same_program p q (same_versioned (versioned p) (versioned q) same) (a.ends ∙ sym b.ends)
 
 -- ---- and always something
 
-pub read_is : (text : List ℕ) (ts : List Token) (fs : List Function) → length text ≤ most_bytes → Lexed text 0 (good ts) → all_of program_at (lexes text ts) ≡ Ok fs → IsProgramOf text (with_end (length text) fs)
-read_is text ts fs le l e = record { small = le; tokens = ts; lexed = l; reads = all_read (lexes text ts) fs (length text) e; ends = refl }
+pub read_is : (text : List ℕ) (ts : List Token) (x : Versioned) → length text ≤ most_bytes → Lexed text 0 (good ts) → all_of program_at (lexes text ts) ≡ Ok x → IsProgramOf text (with_end (length text) x)
+read_is text ts x le l e = record { small = le; tokens = ts; lexed = l; reads = all_read (lexes text ts) x (length text) e; ends = refl }
 
 abbrev Answered : List ℕ → Type 0
 Answered text = ((p : Program) × IsProgramOf text p) ⊎ ((f : ReadFault) × Refuses text f)
@@ -182,7 +186,7 @@ answer_of : (text : List ℕ) (r : Outcome) → length text ≤ most_bytes → L
 answer_of text (bad at) le l = inr (BadByte at, (le, l))
 answer_of text (good ts) le l = by_answer (all_of program_at (lexes text ts)) refl
   where
-    by_answer : (x : Result (List Function) (Cause × List Lex)) → all_of program_at (lexes text ts) ≡ x → Answered text
+    by_answer : (x : Result Versioned (Cause × List Lex)) → all_of program_at (lexes text ts) ≡ x → Answered text
     by_answer (Ok fs) e = inl (with_end (length text) fs, read_is text ts fs le l e)
     by_answer (Err (c, rest)) e = inr (fault_at (length text) (front_of (lexes text ts) rest) c rest, refuses_stop text ts c rest le l e)
 

@@ -55,16 +55,16 @@ dest_at instructions registers = mapped first_of (both (one (want_defined instru
 abbrev pub op_placed : (Keyword × ℕ) × Op → Op × ℕ
 op_placed x = (x.1, x.0.1)
 
-unfoldable pub plain_at : ℕ → Reader (Op × ℕ)
-plain_at instructions = mapped op_placed (both (one (want_plain instructions)) (λ k. tail_at false k.0))
+unfoldable pub plain_at : ℕ → ℕ → Reader (Op × ℕ)
+plain_at version instructions = mapped op_placed (both (one (want_plain instructions)) (λ k. tail_at version false k.0))
 
 abbrev pub placed_at : ℕ → Op → Op × ℕ
 placed_at at o = (o, at)
 
 -- the operation, with the instruction's place
-abbrev pub op_for : ℕ → Option (Named × ℕ) → Reader (Op × ℕ)
-op_for instructions None = plain_at instructions
-op_for instructions (Some x) = mapped (placed_at x.1) defined_at
+abbrev pub op_for : ℕ → ℕ → Option (Named × ℕ) → Reader (Op × ℕ)
+op_for version instructions None = plain_at version instructions
+op_for version instructions (Some x) = mapped (placed_at x.1) (defined_at version)
 
 abbrev pub name_in : Option (Named × ℕ) → Option Named
 name_in None = None
@@ -73,21 +73,21 @@ name_in (Some x) = Some x.0
 abbrev pub inst_of : Option (Named × ℕ) × (Op × ℕ) → Inst
 inst_of x = record { dest = name_in x.0; at = x.1.1; op = x.1.0 }
 
-unfoldable pub inst_at : ℕ → ℕ → Reader Inst
-inst_at instructions registers = mapped inst_of (both (maybe (begins_if is_local) (dest_at instructions registers)) (op_for instructions))
+unfoldable pub inst_at : ℕ → ℕ → ℕ → Reader Inst
+inst_at version instructions registers = mapped inst_of (both (maybe (begins_if is_local) (dest_at instructions registers)) (op_for version instructions))
 
 -- the two forms of an instruction
 abbrev pub defining_of : (Named × ℕ) × Op → Inst
 defining_of x = record { dest = Some x.0.0; at = x.0.1; op = x.1 }
 
-unfoldable pub defining_at : ℕ → ℕ → Reader Inst
-defining_at instructions registers = mapped defining_of (both (dest_at instructions registers) (λ _. defined_at))
+unfoldable pub defining_at : ℕ → ℕ → ℕ → Reader Inst
+defining_at version instructions registers = mapped defining_of (both (dest_at instructions registers) (λ _. defined_at version))
 
 abbrev pub alone_of : Op × ℕ → Inst
 alone_of x = record { dest = None; at = x.1; op = x.0 }
 
-unfoldable pub alone_at : ℕ → Reader Inst
-alone_at instructions = mapped alone_of (plain_at instructions)
+unfoldable pub alone_at : ℕ → ℕ → Reader Inst
+alone_at version instructions = mapped alone_of (plain_at version instructions)
 
 -- ---- terminators
 

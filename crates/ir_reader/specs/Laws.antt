@@ -9,17 +9,17 @@ use Rattle.ir_ast.specs.declared.program.Function.{Function}
 use Rattle.ir_ast.specs.declared.program.Program.{Program}
 use Rattle.ir_reader.specs.Blocks.{program_at}
 
--- the program of these functions, whose text has this length
-abbrev pub with_end : ℕ → List Function → Program
-with_end end fs = record { functions = fs; «end» = end }
+-- the program of this version and these functions, whose text has this length
+abbrev pub with_end : ℕ → ℕ × List Function → Program
+with_end end x = record { version = x.0; functions = x.1; «end» = end }
 
 -- what is read is a program that the tokens are written with
 abbrev pub ReadsPrograms : Type 0
-ReadsPrograms = (ts : List Lex) (fs : List Function) (end : ℕ) → all_of program_at ts ≡ Ok fs → Reads IsShaped spell ts (with_end end fs)
+ReadsPrograms = (ts : List Lex) (x : ℕ × List Function) (end : ℕ) → all_of program_at ts ≡ Ok x → Reads IsShaped spell ts (with_end end x)
 
 -- tokens that a program is written with are read as that program
 abbrev pub ReadsEach : Type 0
-ReadsEach = (ts : List Lex) (p : Program) → Reads IsShaped spell ts p → all_of program_at ts ≡ Ok p.functions
+ReadsEach = (ts : List Lex) (p : Program) → Reads IsShaped spell ts p → all_of program_at ts ≡ Ok (p.version, p.functions)
 
 -- what is refused is refused for the right cause, at the right token
 abbrev pub RefusesRightly : Type 0

@@ -105,8 +105,8 @@ retag_of x = op.Retag x.0 x.1.0 x.1.1
 unfoldable pub next_size_at : Reader ℕ
 next_size_at = after_comma (one (want_amount (2 ^ 32)))
 
-unfoldable pub retag_at : Reader Op
-retag_at = mapped retag_of (both (one (want_among kinds)) (λ _. both register_at (λ _. next_size_at)))
+unfoldable pub retag_at : ℕ → Reader Op
+retag_at version = mapped retag_of (both (one (want_among (kinds version))) (λ _. both register_at (λ _. next_size_at)))
 
 abbrev pub binary_of : BinaryOp → Width × (Val × Val) → Op
 binary_of o x = op.Binary o x.0 x.1.0 x.1.1
@@ -194,30 +194,30 @@ unfoldable pub join_at : Bool → Reader Op
 join_at typed = mapped join_of (both (placed_result_at typed) (λ _. register_at))
 
 -- the rest of an operation, behind its first word; the result of a call or a join has a type where it is to be typed
-abbrev pub tail_at : Bool → Keyword → Reader Op
-tail_at typed key.Const = const_at
-tail_at typed key.Null = given op.Null
-tail_at typed (key.Make place) = make_at place
-tail_at typed key.Gep = gep_at
-tail_at typed key.Load = load_at
-tail_at typed key.Store = store_at
-tail_at typed key.Retag = retag_at
-tail_at typed (key.Binary o) = binary_at o
-tail_at typed key.Compare = compare_at
-tail_at typed key.Select = select_at
-tail_at typed (key.Cast o) = cast_at o
-tail_at typed key.PtrToInt = ptr_to_int_at
-tail_at typed key.Input = input_at
-tail_at typed key.Modify = modify_at
-tail_at typed key.CmpXchg = cmp_xchg_at
-tail_at typed key.Copy = copy_at
-tail_at typed key.Free = free_at
-tail_at typed key.Print = print_at
-tail_at typed key.Call = call_at typed
-tail_at typed key.Host = host_at
-tail_at typed key.Spawn = spawn_at
-tail_at typed key.Join = join_at typed
+abbrev pub tail_at : ℕ → Bool → Keyword → Reader Op
+tail_at version typed key.Const = const_at
+tail_at version typed key.Null = given op.Null
+tail_at version typed (key.Make place) = make_at place
+tail_at version typed key.Gep = gep_at
+tail_at version typed key.Load = load_at
+tail_at version typed key.Store = store_at
+tail_at version typed key.Retag = retag_at version
+tail_at version typed (key.Binary o) = binary_at o
+tail_at version typed key.Compare = compare_at
+tail_at version typed key.Select = select_at
+tail_at version typed (key.Cast o) = cast_at o
+tail_at version typed key.PtrToInt = ptr_to_int_at
+tail_at version typed key.Input = input_at
+tail_at version typed key.Modify = modify_at
+tail_at version typed key.CmpXchg = cmp_xchg_at
+tail_at version typed key.Copy = copy_at
+tail_at version typed key.Free = free_at
+tail_at version typed key.Print = print_at
+tail_at version typed key.Call = call_at typed
+tail_at version typed key.Host = host_at
+tail_at version typed key.Spawn = spawn_at
+tail_at version typed key.Join = join_at typed
 
 -- an operation behind a register and `=`
-unfoldable pub defined_at : Reader Op
-defined_at = mapped second (both (one (want_among definers)) (λ k. tail_at true k))
+unfoldable pub defined_at : ℕ → Reader Op
+defined_at version = mapped second (both (one (want_among definers)) (λ k. tail_at version true k))

@@ -53,18 +53,19 @@ fn after_inst(before: Before, defines: bool) -> Before
 /// The instructions that are next, and what stands before the place behind them.
 fn insts<'a>(
     alloc: Global,
+    version: u8,
     before: Before,
     text: &[u8],
     tokens: &'a [Token],
 ) -> Read<'a, (ListOf<Inst>, Before)>
-    ensures read { Gives text.now (λ x. (x.0.0, lexes text.now x.1.now)) result (insts_at (counts before) (lexes text.now tokens.now)) }
+    ensures read { Gives text.now (λ x. (x.0.0, lexes text.now x.1.now)) result (insts_at version (counts before) (lexes text.now tokens.now)) }
     ensures behind { IfOk result (λ x. counts x.0.1 ≡ after_insts (counts before) x.0.0) }
 {
     let mut insts = ListOf::new(alloc);
     let mut behind = before;
     let mut rest = tokens;
     while begins_inst(text, rest) {
-        let (next, after) = inst(alloc, behind.instructions, behind.registers, text, rest)?;
+        let (next, after) = inst(alloc, version, behind.instructions, behind.registers, text, rest)?;
         behind = after_inst(behind, next.dest.is_some());
         insts.push(next)?;
         rest = after;
@@ -76,17 +77,18 @@ fn insts<'a>(
 #[tactic(auto, unfolding(crate::specs::Blocks::block_at))]
 fn block<'a>(
     alloc: Global,
+    version: u8,
     before: Before,
     text: &[u8],
     tokens: &'a [Token],
 ) -> Read<'a, (Block, Before)>
-    ensures read { Gives text.now (λ x. (x.0.0, lexes text.now x.1.now)) result (block_at (counts before) (lexes text.now tokens.now)) }
+    ensures read { Gives text.now (λ x. (x.0.0, lexes text.now x.1.now)) result (block_at version (counts before) (lexes text.now tokens.now)) }
     ensures behind { IfOk result (λ x. counts x.0.1 ≡ after_block (counts before) x.0.0) }
 {
     let (label, rest) = label(alloc, text, tokens)?;
     let (params, rest) = head(alloc, before.registers, text, rest)?;
     let inside = after_params(before, params.len());
-    let ((insts, last), rest) = insts(alloc, inside, text, rest)?;
+    let ((insts, last), rest) = insts(alloc, version, inside, text, rest)?;
     let (term, rest) = term(alloc, last.instructions, text, rest)?;
     let behind = after_inst(last, false);
     Ok((
@@ -106,19 +108,20 @@ fn block<'a>(
 /// Appends the blocks that follow, and tells how many instructions stand before the place behind them.
 fn more_blocks<'a>(
     alloc: Global,
+    version: u8,
     before: Before,
     front: ListOf<Block>,
     text: &[u8],
     tokens: &'a [Token],
 ) -> Read<'a, (ListOf<Block>, u32)>
-    ensures read { Gives text.now (λ x. (x.0.0, lexes text.now x.1.now)) result (with_front front (more_blocks_at (counts before) (lexes text.now tokens.now))) }
+    ensures read { Gives text.now (λ x. (x.0.0, lexes text.now x.1.now)) result (with_front front (more_blocks_at version (counts before) (lexes text.now tokens.now))) }
     ensures behind { IfOk result (λ x. x.0.1 + sum_by block_instructions front ≡ before.instructions + sum_by block_instructions x.0.0) }
 {
     let mut found = front;
     let mut behind = before;
     let mut rest = tokens;
     while begins_any_word(text, rest) {
-        let ((next, last), after) = block(alloc, behind, text, rest)?;
+        let ((next, last), after) = block(alloc, version, behind, text, rest)?;
         found.push(next)?;
         behind = last;
         rest = after;
@@ -129,31 +132,33 @@ fn more_blocks<'a>(
 /// The blocks of a function, and how many instructions stand before the place behind them.
 fn blocks<'a>(
     alloc: Global,
+    version: u8,
     before: Before,
     text: &[u8],
     tokens: &'a [Token],
 ) -> Read<'a, (ListOf<Block>, u32)>
-    ensures read { Gives text.now (λ x. (x.0.0, lexes text.now x.1.now)) result (blocks_at (counts before) (lexes text.now tokens.now)) }
+    ensures read { Gives text.now (λ x. (x.0.0, lexes text.now x.1.now)) result (blocks_at version (counts before) (lexes text.now tokens.now)) }
     ensures behind { IfOk result (λ x. x.0.1 ≡ before.instructions + sum_by block_instructions x.0.0) }
 {
-    let ((first, behind), rest) = block(alloc, before, text, tokens)?;
+    let ((first, behind), rest) = block(alloc, version, before, text, tokens)?;
     let mut front = ListOf::new(alloc);
     front.push(first)?;
-    more_blocks(alloc, behind, front, text, rest)
+    more_blocks(alloc, version, behind, front, text, rest)
 }
 
 /// The blocks of a function and the `}` behind them, and how many instructions then stand before.
 #[tactic(auto, unfolding(crate::specs::Blocks::closed_blocks_at))]
 pub fn closed_blocks<'a>(
     alloc: Global,
+    version: u8,
     before: Before,
     text: &[u8],
     tokens: &'a [Token],
 ) -> Read<'a, (ListOf<Block>, u32)>
-    ensures read { Gives text.now (λ x. (x.0.0, lexes text.now x.1.now)) result (closed_blocks_at (counts before) (lexes text.now tokens.now)) }
+    ensures read { Gives text.now (λ x. (x.0.0, lexes text.now x.1.now)) result (closed_blocks_at version (counts before) (lexes text.now tokens.now)) }
     ensures behind { IfOk result (λ x. x.0.1 ≡ before.instructions + sum_by block_instructions x.0.0) }
 {
-    let (blocks, rest) = blocks(alloc, before, text, tokens)?;
+    let (blocks, rest) = blocks(alloc, version, before, text, tokens)?;
     let rest = take_mark(Mark::CloseBrace, text, rest)?;
     Ok((blocks, rest))
 }

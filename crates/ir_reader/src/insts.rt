@@ -138,38 +138,40 @@ fn dest<'a>(
 #[tactic(auto, unfolding(crate::specs::Insts::plain_at))]
 fn plain<'a>(
     alloc: Global,
+    version: u8,
     instructions: u32,
     text: &[u8],
     tokens: &'a [Token],
 ) -> Read<'a, (Op, u32)>
-    ensures { Gives text.now (λ x. (x.0, lexes text.now x.1.now)) result (plain_at instructions (lexes text.now tokens.now)) }
+    ensures { Gives text.now (λ x. (x.0, lexes text.now x.1.now)) result (plain_at version instructions (lexes text.now tokens.now)) }
 {
     let ((keyword, at), rest) = plain_word(instructions, text, tokens)?;
-    let (op, rest) = tail(alloc, false, keyword, text, rest)?;
+    let (op, rest) = tail(alloc, version, false, keyword, text, rest)?;
     Ok(((op, at), rest))
 }
 
 #[tactic(auto, unfolding(crate::specs::Insts::defining_at))]
 fn defining<'a>(
     alloc: Global,
+    version: u8,
     instructions: u32,
     registers: u32,
     text: &[u8],
     tokens: &'a [Token],
 ) -> Read<'a, Inst>
-    ensures { Gives text.now (λ x. (x.0, lexes text.now x.1.now)) result (defining_at instructions registers (lexes text.now tokens.now)) }
+    ensures { Gives text.now (λ x. (x.0, lexes text.now x.1.now)) result (defining_at version instructions registers (lexes text.now tokens.now)) }
 {
     let ((register, at), rest) = dest(alloc, instructions, registers, text, tokens)?;
-    let (op, rest) = defined(alloc, text, rest)?;
+    let (op, rest) = defined(alloc, version, text, rest)?;
     let dest = Some(register);
     Ok((Inst { dest, at, op }, rest))
 }
 
 #[tactic(auto, unfolding(crate::specs::Insts::alone_at))]
-fn alone<'a>(alloc: Global, instructions: u32, text: &[u8], tokens: &'a [Token]) -> Read<'a, Inst>
-    ensures { Gives text.now (λ x. (x.0, lexes text.now x.1.now)) result (alone_at instructions (lexes text.now tokens.now)) }
+fn alone<'a>(alloc: Global, version: u8, instructions: u32, text: &[u8], tokens: &'a [Token]) -> Read<'a, Inst>
+    ensures { Gives text.now (λ x. (x.0, lexes text.now x.1.now)) result (alone_at version instructions (lexes text.now tokens.now)) }
 {
-    let ((op, at), rest) = plain(alloc, instructions, text, tokens)?;
+    let ((op, at), rest) = plain(alloc, version, instructions, text, tokens)?;
     let dest = None;
     Ok((Inst { dest, at, op }, rest))
 }
@@ -178,17 +180,18 @@ fn alone<'a>(alloc: Global, instructions: u32, text: &[u8], tokens: &'a [Token])
 /// before it.
 pub fn inst<'a>(
     alloc: Global,
+    version: u8,
     instructions: u32,
     registers: u32,
     text: &[u8],
     tokens: &'a [Token],
 ) -> Read<'a, Inst>
-    ensures { Gives text.now (λ x. (x.0, lexes text.now x.1.now)) result (inst_at instructions registers (lexes text.now tokens.now)) }
+    ensures { Gives text.now (λ x. (x.0, lexes text.now x.1.now)) result (inst_at version instructions registers (lexes text.now tokens.now)) }
 {
     if begins_local(text, tokens) {
-        defining(alloc, instructions, registers, text, tokens)
+        defining(alloc, version, instructions, registers, text, tokens)
     } else {
-        alone(alloc, instructions, text, tokens)
+        alone(alloc, version, instructions, text, tokens)
     }
 }
 

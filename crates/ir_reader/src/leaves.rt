@@ -240,15 +240,15 @@ pub fn placed_result<'a>(text: &[u8], tokens: &'a [Token]) -> Read<'a, (Option<T
     }
 }
 
-/// A kind of retag.
-pub fn kind<'a>(text: &[u8], tokens: &'a [Token]) -> Read<'a, RetagKind>
-    ensures { Gives text.now (λ x. (x.0, lexes text.now x.1.now)) result (one (want_among kinds) (lexes text.now tokens.now)) }
+/// A kind of retag of the version.
+pub fn kind<'a>(version: u8, text: &[u8], tokens: &'a [Token]) -> Read<'a, RetagKind>
+    ensures { Gives text.now (λ x. (x.0, lexes text.now x.1.now)) result (one (want_among (kinds version)) (lexes text.now tokens.now)) }
 {
     let [first, rest @ ..] = tokens else {
         return Err(Stop::At(Cause::Unexpected, tokens));
     };
     if let TokenKind::Word = first.kind
-        && let Some(value) = kind_of(bytes_of(text, first))
+        && let Some(value) = kind_of(version, bytes_of(text, first))
     {
         Ok((value, rest))
     } else {

@@ -153,10 +153,10 @@ fn store<'a>(alloc: Global, text: &[u8], tokens: &'a [Token]) -> Read<'a, Op>
 }
 
 #[tactic(auto, unfolding(crate::specs::Ops::retag_at))]
-fn retag<'a>(alloc: Global, text: &[u8], tokens: &'a [Token]) -> Read<'a, Op>
-    ensures { Gives text.now (λ x. (x.0, lexes text.now x.1.now)) result (retag_at (lexes text.now tokens.now)) }
+fn retag<'a>(alloc: Global, version: u8, text: &[u8], tokens: &'a [Token]) -> Read<'a, Op>
+    ensures { Gives text.now (λ x. (x.0, lexes text.now x.1.now)) result (retag_at version (lexes text.now tokens.now)) }
 {
-    let (kind, rest) = kind(text, tokens)?;
+    let (kind, rest) = kind(version, text, tokens)?;
     let (ptr, rest) = local(alloc, text, rest)?;
     let (size, rest) = next_size(text, rest)?;
     Ok((Op::Retag { kind, ptr, size }, rest))
@@ -351,12 +351,13 @@ fn join<'a>(alloc: Global, typed: bool, text: &[u8], tokens: &'a [Token]) -> Rea
 /// The rest of an operation. The result of a call or a join has a type where it is to be typed.
 pub fn tail<'a>(
     alloc: Global,
+    version: u8,
     typed: bool,
     keyword: Keyword,
     text: &[u8],
     tokens: &'a [Token],
 ) -> Read<'a, Op>
-    ensures { Gives text.now (λ x. (x.0, lexes text.now x.1.now)) result (tail_at typed keyword (lexes text.now tokens.now)) }
+    ensures { Gives text.now (λ x. (x.0, lexes text.now x.1.now)) result (tail_at version typed keyword (lexes text.now tokens.now)) }
 {
     match keyword {
         Keyword::Const => constant(text, tokens),
@@ -365,7 +366,7 @@ pub fn tail<'a>(
         Keyword::Gep => gep(alloc, text, tokens),
         Keyword::Load => load(alloc, text, tokens),
         Keyword::Store => store(alloc, text, tokens),
-        Keyword::Retag => retag(alloc, text, tokens),
+        Keyword::Retag => retag(alloc, version, text, tokens),
         Keyword::Binary(op) => binary(alloc, op, text, tokens),
         Keyword::Compare => compare(alloc, text, tokens),
         Keyword::Select => select(alloc, text, tokens),
@@ -386,9 +387,9 @@ pub fn tail<'a>(
 
 /// An operation behind a register and `=`.
 #[tactic(auto, unfolding(crate::specs::Ops::defined_at))]
-pub fn defined<'a>(alloc: Global, text: &[u8], tokens: &'a [Token]) -> Read<'a, Op>
-    ensures { Gives text.now (λ x. (x.0, lexes text.now x.1.now)) result (defined_at (lexes text.now tokens.now)) }
+pub fn defined<'a>(alloc: Global, version: u8, text: &[u8], tokens: &'a [Token]) -> Read<'a, Op>
+    ensures { Gives text.now (λ x. (x.0, lexes text.now x.1.now)) result (defined_at version (lexes text.now tokens.now)) }
 {
     let (keyword, rest) = definer(text, tokens)?;
-    tail(alloc, true, keyword, text, rest)
+    tail(alloc, version, true, keyword, text, rest)
 }

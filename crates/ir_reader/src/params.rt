@@ -16,10 +16,10 @@ use std::alloc::Global;
 const MOST_REGISTERS: u32 = 1_024;
 
 #[tactic(auto, unfolding(crate::specs::Blocks::attr_at))]
-fn attr<'a>(text: &[u8], tokens: &'a [Token]) -> Read<'a, Attr>
-    ensures { Gives text.now (λ x. (x.0, lexes text.now x.1.now)) result (attr_at (lexes text.now tokens.now)) }
+fn attr<'a>(version: u8, text: &[u8], tokens: &'a [Token]) -> Read<'a, Attr>
+    ensures { Gives text.now (λ x. (x.0, lexes text.now x.1.now)) result (attr_at version (lexes text.now tokens.now)) }
 {
-    let (kind, rest) = kind(text, tokens)?;
+    let (kind, rest) = kind(version, text, tokens)?;
     let rest = take_mark(Mark::OpenRound, text, rest)?;
     let (size, rest) = size(text, rest)?;
     let rest = take_mark(Mark::CloseRound, text, rest)?;
@@ -27,40 +27,37 @@ fn attr<'a>(text: &[u8], tokens: &'a [Token]) -> Read<'a, Attr>
 }
 
 #[tactic(auto, unfolding(crate::specs::Blocks::some_attr_at))]
-fn some_attr<'a>(text: &[u8], tokens: &'a [Token]) -> Read<'a, Option<Attr>>
-    ensures { Gives text.now (λ x. (x.0, lexes text.now x.1.now)) result (some_attr_at (lexes text.now tokens.now)) }
+fn some_attr<'a>(version: u8, text: &[u8], tokens: &'a [Token]) -> Read<'a, Option<Attr>>
+    ensures { Gives text.now (λ x. (x.0, lexes text.now x.1.now)) result (some_attr_at version (lexes text.now tokens.now)) }
 {
-    let (attr, rest) = attr(text, tokens)?;
+    let (attr, rest) = attr(version, text, tokens)?;
     Ok((Some(attr), rest))
 }
 
 /// An attribute, if a word is next.
-fn optional_attr<'a>(text: &[u8], tokens: &'a [Token]) -> Read<'a, Option<Attr>>
-    ensures { Gives text.now (λ x. (x.0, lexes text.now x.1.now)) result (optional_attr_at (lexes text.now tokens.now)) }
+fn optional_attr<'a>(version: u8, text: &[u8], tokens: &'a [Token]) -> Read<'a, Option<Attr>>
+    ensures { Gives text.now (λ x. (x.0, lexes text.now x.1.now)) result (optional_attr_at version (lexes text.now tokens.now)) }
 {
     if begins_any_word(text, tokens) {
-        some_attr(text, tokens)
+        some_attr(version, text, tokens)
     } else {
         Ok((None, tokens))
     }
 }
 
-/// The attribute of a type, which may stand at `ptr` where attributes may stand at all.
+/// The attribute of a type, which may stand at `ptr` where attributes may stand at all: those of
+/// the version `attrs`.
 fn attr_for<'a>(
-    attrs: bool,
+    attrs: Option<u8>,
     ty: Option<Ty>,
     text: &[u8],
     tokens: &'a [Token],
 ) -> Read<'a, Option<Attr>>
     ensures { Gives text.now (λ x. (x.0, lexes text.now x.1.now)) result (attr_for attrs ty (lexes text.now tokens.now)) }
 {
-    if !attrs {
-        return Ok((None, tokens));
-    }
-    match ty {
-        Some(Ty::Ptr) => optional_attr(text, tokens),
-        Some(Ty::Int(_)) => Ok((None, tokens)),
-        None => Ok((None, tokens)),
+    match (attrs, ty) {
+        (Some(version), Some(Ty::Ptr)) => optional_attr(version, text, tokens),
+        _ => Ok((None, tokens)),
     }
 }
 
@@ -94,7 +91,7 @@ fn param_register<'a>(
 #[tactic(auto, unfolding(crate::specs::Blocks::param_at))]
 fn param<'a>(
     alloc: Global,
-    attrs: bool,
+    attrs: Option<u8>,
     registers: u32,
     text: &[u8],
     tokens: &'a [Token],
@@ -110,7 +107,7 @@ fn param<'a>(
 #[tactic(auto, unfolding(crate::specs::Blocks::next_param_at))]
 fn next_param<'a>(
     alloc: Global,
-    attrs: bool,
+    attrs: Option<u8>,
     registers: u32,
     text: &[u8],
     tokens: &'a [Token],
@@ -123,21 +120,21 @@ fn next_param<'a>(
 
 /// The result of a function, with its attribute.
 #[tactic(auto, unfolding(crate::specs::Blocks::result_ty_at))]
-fn result_ty<'a>(text: &[u8], tokens: &'a [Token]) -> Read<'a, ResultTy>
-    ensures { Gives text.now (λ x. (x.0, lexes text.now x.1.now)) result (result_ty_at (lexes text.now tokens.now)) }
+fn result_ty<'a>(version: u8, text: &[u8], tokens: &'a [Token]) -> Read<'a, ResultTy>
+    ensures { Gives text.now (λ x. (x.0, lexes text.now x.1.now)) result (result_ty_at version (lexes text.now tokens.now)) }
 {
     let (ty, rest) = result(text, tokens)?;
-    let (attr, rest) = attr_for(true, ty, text, rest)?;
+    let (attr, rest) = attr_for(Some(version), ty, text, rest)?;
     Ok((ResultTy { ty, attr }, rest))
 }
 
 /// From `->` to `{`.
 #[tactic(auto, unfolding(crate::specs::Blocks::arrow_result_at))]
-pub fn arrow_result<'a>(text: &[u8], tokens: &'a [Token]) -> Read<'a, ResultTy>
-    ensures { Gives text.now (λ x. (x.0, lexes text.now x.1.now)) result (arrow_result_at (lexes text.now tokens.now)) }
+pub fn arrow_result<'a>(version: u8, text: &[u8], tokens: &'a [Token]) -> Read<'a, ResultTy>
+    ensures { Gives text.now (λ x. (x.0, lexes text.now x.1.now)) result (arrow_result_at version (lexes text.now tokens.now)) }
 {
     let rest = take_mark(Mark::Arrow, text, tokens)?;
-    let (result, rest) = result_ty(text, rest)?;
+    let (result, rest) = result_ty(version, text, rest)?;
     let rest = take_mark(Mark::OpenBrace, text, rest)?;
     Ok((result, rest))
 }
@@ -145,7 +142,7 @@ pub fn arrow_result<'a>(text: &[u8], tokens: &'a [Token]) -> Read<'a, ResultTy>
 /// Appends the parameters that follow, each after a comma. So many registers stand before them.
 fn more_params<'a>(
     alloc: Global,
-    attrs: bool,
+    attrs: Option<u8>,
     registers: u32,
     front: ListOf<Param>,
     text: &[u8],
@@ -167,7 +164,7 @@ fn more_params<'a>(
 
 fn params<'a>(
     alloc: Global,
-    attrs: bool,
+    attrs: Option<u8>,
     registers: u32,
     text: &[u8],
     tokens: &'a [Token],
@@ -181,11 +178,11 @@ fn params<'a>(
     more_params(alloc, attrs, before, front, text, rest)
 }
 
-fn some_params<'a>(alloc: Global, text: &[u8], tokens: &'a [Token]) -> Read<'a, ListOf<Param>>
-    ensures { Gives text.now (λ x. (x.0, lexes text.now x.1.now)) result (some_params_at (lexes text.now tokens.now)) }
+fn some_params<'a>(alloc: Global, version: u8, text: &[u8], tokens: &'a [Token]) -> Read<'a, ListOf<Param>>
+    ensures { Gives text.now (λ x. (x.0, lexes text.now x.1.now)) result (some_params_at version (lexes text.now tokens.now)) }
 {
     if begins_any_word(text, tokens) {
-        params(alloc, true, 0, text, tokens)
+        params(alloc, Some(version), 0, text, tokens)
     } else {
         Ok((ListOf::new(alloc), tokens))
     }
@@ -195,13 +192,14 @@ fn some_params<'a>(alloc: Global, text: &[u8], tokens: &'a [Token]) -> Read<'a, 
 #[tactic(auto, unfolding(crate::specs::Blocks::function_params_at))]
 pub fn function_params<'a>(
     alloc: Global,
+    version: u8,
     text: &[u8],
     tokens: &'a [Token],
 ) -> Read<'a, ListOf<Param>>
-    ensures { Gives text.now (λ x. (x.0, lexes text.now x.1.now)) result (function_params_at (lexes text.now tokens.now)) }
+    ensures { Gives text.now (λ x. (x.0, lexes text.now x.1.now)) result (function_params_at version (lexes text.now tokens.now)) }
 {
     let rest = take_mark(Mark::OpenRound, text, tokens)?;
-    let (params, rest) = some_params(alloc, text, rest)?;
+    let (params, rest) = some_params(alloc, version, text, rest)?;
     let rest = take_mark(Mark::CloseRound, text, rest)?;
     Ok((params, rest))
 }
@@ -216,7 +214,7 @@ fn round_params<'a>(
     ensures { Gives text.now (λ x. (x.0, lexes text.now x.1.now)) result (round_params_at registers (lexes text.now tokens.now)) }
 {
     let rest = take_mark(Mark::OpenRound, text, tokens)?;
-    let (params, rest) = params(alloc, false, registers, text, rest)?;
+    let (params, rest) = params(alloc, None, registers, text, rest)?;
     let rest = take_mark(Mark::CloseRound, text, rest)?;
     Ok((params, rest))
 }

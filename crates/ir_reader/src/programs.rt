@@ -4,12 +4,10 @@ ghost use Rattle.std.specs.List.{sum_by};
 ghost use Rattle.phrase.specs.Reading.{one};
 ghost use Rattle.phrase.specs.Whole.{all_of};
 ghost use Rattle.ir_ast.specs.Lines.{most_functions, most_registers, block_instructions};
-ghost use Rattle.std.specs.Prelude.{◌==◌};
-ghost use Rattle.std.specs.Str.Parse.{digits_value};
 ghost use Rattle.ir_reader.specs.View.{lexes, Gives, begins, with_front};
 ghost use Rattle.ir_reader.specs.Told.{GivesAll};
-ghost use Rattle.ir_reader.specs.Wants.{want_if, begins_if, is_word};
-ghost use Rattle.ir_reader.specs.Blocks.{is_one, func_at, function_at, more_functions_at, functions_at, program_at};
+ghost use Rattle.ir_reader.specs.Wants.{begins_if, is_word};
+ghost use Rattle.ir_reader.specs.Blocks.{want_version, func_at, function_at, more_functions_at, functions_at, program_at};
 
 use crate::blocks::{Before, closed_blocks};
 use crate::leaves::{bytes_of, global, word};
@@ -72,25 +70,26 @@ fn registers_of(params: &ListOf<Param>) -> u32
 #[tactic(auto, unfolding(crate::specs::Blocks::function_at))]
 fn function<'a>(
     alloc: Global,
+    version: u8,
     functions: u32,
     instructions: u32,
     text: &[u8],
     tokens: &'a [Token],
 ) -> Read<'a, (Function, u32)>
-    ensures read { Gives text.now (λ x. (x.0.0, lexes text.now x.1.now)) result (function_at (functions, instructions) (lexes text.now tokens.now)) }
+    ensures read { Gives text.now (λ x. (x.0.0, lexes text.now x.1.now)) result (function_at version (functions, instructions) (lexes text.now tokens.now)) }
     ensures behind { IfOk result (λ x. x.0.1 ≡ instructions + sum_by block_instructions x.0.0.blocks) }
     ensures within { IfOk result (λ _. functions < most_functions) }
 {
     let rest = func(functions, text, tokens)?;
     let (name, rest) = global(alloc, text, rest)?;
-    let (params, rest) = function_params(alloc, text, rest)?;
-    let (result, rest) = arrow_result(text, rest)?;
+    let (params, rest) = function_params(alloc, version, text, rest)?;
+    let (result, rest) = arrow_result(version, text, rest)?;
     let registers = registers_of(&params);
     let before = Before {
         instructions,
         registers,
     };
-    let ((blocks, behind), rest) = closed_blocks(alloc, before, text, rest)?;
+    let ((blocks, behind), rest) = closed_blocks(alloc, version, before, text, rest)?;
     Ok((
         (
             Function {
@@ -108,20 +107,21 @@ fn function<'a>(
 /// Appends the functions that follow.
 fn more_functions<'a>(
     alloc: Global,
+    version: u8,
     functions: u32,
     instructions: u32,
     front: ListOf<Function>,
     text: &[u8],
     tokens: &'a [Token],
 ) -> Read<'a, ListOf<Function>>
-    ensures { Gives text.now (λ x. (x.0, lexes text.now x.1.now)) result (with_front front (more_functions_at (functions, instructions) (lexes text.now tokens.now))) }
+    ensures { Gives text.now (λ x. (x.0, lexes text.now x.1.now)) result (with_front front (more_functions_at version (functions, instructions) (lexes text.now tokens.now))) }
 {
     let mut found = front;
     let mut count = functions;
     let mut before = instructions;
     let mut rest = tokens;
     while begins_func(text, rest) {
-        let ((next, behind), after) = function(alloc, count, before, text, rest)?;
+        let ((next, behind), after) = function(alloc, version, count, before, text, rest)?;
         found.push(next)?;
         count += 1;
         before = behind;
@@ -130,59 +130,58 @@ fn more_functions<'a>(
     Ok((found, rest))
 }
 
-fn functions<'a>(alloc: Global, text: &[u8], tokens: &'a [Token]) -> Read<'a, ListOf<Function>>
-    ensures { Gives text.now (λ x. (x.0, lexes text.now x.1.now)) result (functions_at (lexes text.now tokens.now)) }
+fn functions<'a>(alloc: Global, version: u8, text: &[u8], tokens: &'a [Token]) -> Read<'a, ListOf<Function>>
+    ensures { Gives text.now (λ x. (x.0, lexes text.now x.1.now)) result (functions_at version (lexes text.now tokens.now)) }
 {
-    let ((first, behind), rest) = function(alloc, 0, 0, text, tokens)?;
+    let ((first, behind), rest) = function(alloc, version, 0, 0, text, tokens)?;
     let mut front = ListOf::new(alloc);
     front.push(first)?;
-    more_functions(alloc, 1, behind, front, text, rest)
+    more_functions(alloc, version, 1, behind, front, text, rest)
 }
 
-/// Takes the number 1.
-fn one<'a>(text: &[u8], tokens: &'a [Token]) -> Result<&'a [Token], Stop<'a>>
-    ensures { Gives text.now (λ rest. (tt, lexes text.now rest.now)) result (one (want_if is_one) (lexes text.now tokens.now)) }
+/// The number of a version, which is 1 or 2.
+fn version<'a>(text: &[u8], tokens: &'a [Token]) -> Read<'a, u8>
+    ensures { Gives text.now (λ x. (x.0, lexes text.now x.1.now)) result (one want_version (lexes text.now tokens.now)) }
 {
     let [first, rest @ ..] = tokens else {
         return Err(Stop::At(Cause::Unexpected, tokens));
     };
-    match first.kind {
-        TokenKind::Number if is_one(bytes_of(text, first)) => Ok(rest),
-        _ => Err(Stop::At(Cause::Unexpected, tokens)),
+    if let TokenKind::Number = first.kind
+        && let Some(number) = number(bytes_of(text, first), 2)
+        && 1 <= number
+    {
+        Ok((number as u8, rest))
+    } else {
+        Err(Stop::At(Cause::Unexpected, tokens))
     }
 }
 
-/// Whether the digits write the number 1.
-fn is_one(digits: &[u8]) -> bool
-    ensures { result ≡ digits_value 10 digits.now == 1 }
-{
-    match number(digits, 1) {
-        Some(value) => value == 1,
-        None => false,
-    }
-}
-
-/// The functions of a program, behind `bir 1`.
+/// The version of a program, behind `bir`, and its functions.
 #[tactic(auto, unfolding(crate::specs::Blocks::program_at))]
-fn program<'a>(alloc: Global, text: &[u8], tokens: &'a [Token]) -> Read<'a, ListOf<Function>>
+fn program<'a>(
+    alloc: Global,
+    text: &[u8],
+    tokens: &'a [Token],
+) -> Read<'a, (u8, ListOf<Function>)>
     ensures { Gives text.now (λ x. (x.0, lexes text.now x.1.now)) result (program_at (lexes text.now tokens.now)) }
 {
     let rest = word(b"bir".as_slice(), text, tokens)?;
-    let rest = one(text, rest)?;
-    functions(alloc, text, rest)
+    let (version, rest) = version(text, rest)?;
+    let (functions, rest) = functions(alloc, version, text, rest)?;
+    Ok(((version, functions), rest))
 }
 
-/// The functions of the program that all of the tokens are.
+/// The version and the functions of the program that all of the tokens are.
 pub fn whole<'a>(
     alloc: Global,
     text: &[u8],
     tokens: &'a [Token],
-) -> Result<ListOf<Function>, Stop<'a>>
+) -> Result<(u8, ListOf<Function>), Stop<'a>>
     ensures { GivesAll text.now result (all_of program_at (lexes text.now tokens.now)) }
 {
-    let (functions, rest) = program(alloc, text, tokens)?;
+    let (program, rest) = program(alloc, text, tokens)?;
     match rest {
-        [] => Ok(functions),
+        [] => Ok(program),
         [_, ..] => Err(Stop::At(Cause::Unexpected, rest)),
     }
 }

@@ -60,8 +60,8 @@ pub fn result_of(word: &[u8]) -> Option<Option<Ty>>
     }
 }
 
-pub fn kind_of(word: &[u8]) -> Option<RetagKind>
-    ensures { result ≡ lookup kinds word.now }
+pub fn kind_of(version: u8, word: &[u8]) -> Option<RetagKind>
+    ensures { result ≡ lookup (kinds version) word.now }
 {
     if word == b"mut".as_slice() {
         Some(RetagKind::Mut)
@@ -71,6 +71,8 @@ pub fn kind_of(word: &[u8]) -> Option<RetagKind>
         Some(RetagKind::Shr)
     } else if word == b"box".as_slice() {
         Some(RetagKind::Boxed)
+    } else if 2 <= version && word == b"shrcell".as_slice() {
+        Some(RetagKind::ShrCell)
     } else {
         None
     }

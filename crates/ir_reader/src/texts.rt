@@ -88,7 +88,11 @@ fn read_tokens(alloc: Global, text: &[u8], tokens: &[Token]) -> Result<Program, 
 {
     let end = text.len() as u32;
     match whole(alloc, text, tokens) {
-        Ok(functions) => Ok(Program { functions, end }),
+        Ok((version, functions)) => Ok(Program {
+            version,
+            functions,
+            end,
+        }),
         Err(Stop::Memory) => Err(ReadFault::NoMemory),
         Err(Stop::At(cause, rest)) => Err(fault_at(end, text, front_of(tokens, rest), cause, rest)),
     }

@@ -3,7 +3,7 @@ use ir_reader::{ReadFault, read};
 use std::test::Fail;
 
 /// Texts that are cut off, or go wrong, with the place where.
-const REFUSED: [(&str, ReadFault); 32] = [
+const REFUSED: [(&str, ReadFault); 37] = [
     // cut off
     ("", ReadFault::Unexpected { at: 0 }),
     (" ; nothing", ReadFault::Unexpected { at: 10 }),
@@ -20,11 +20,26 @@ const REFUSED: [(&str, ReadFault); 32] = [
     ),
     // the first line
     ("bin 1", ReadFault::Unexpected { at: 0 }),
-    ("bir 2", ReadFault::Unexpected { at: 4 }),
+    ("bir 0", ReadFault::Unexpected { at: 4 }),
+    ("bir 2", ReadFault::Unexpected { at: 5 }),
+    ("bir 3", ReadFault::Unexpected { at: 4 }),
     ("bir 18446744073709551617", ReadFault::Unexpected { at: 4 }),
     // bad bytes, wherever they stand
     ("bir 1\n$", ReadFault::BadByte { at: 6 }),
     ("bir 2 %", ReadFault::BadByte { at: 6 }),
+    // a kind that the version does not have
+    (
+        "bir 1\nfunc @main() -> i64 {\nentry:\n  %x = alloca 8\n  %y = retag shrcell %x, 8",
+        ReadFault::Unexpected { at: 64 },
+    ),
+    (
+        "bir 1 func @f(ptr shrcell(8) %a) -> void { b: ret void }",
+        ReadFault::Unexpected { at: 18 },
+    ),
+    (
+        "bir 2 func @f(ptr shrcell(8) %a) -> ptr shrcells(8) { b: ret void }",
+        ReadFault::Unexpected { at: 40 },
+    ),
     // functions and blocks
     (
         "bir 1 func @f() -> void { }",

@@ -4,7 +4,7 @@ use ir_reader::read;
 use std::test::Fail;
 
 /// Each operation, terminator, type and kind at least once.
-const EACH: &str = "bir 1
+const EACH: &str = "bir 2
 func @f(i8 %a, ptr mut(0) %b, ptr cell(4294967295) %c, ptr %d) -> ptr shr(8) {
 entry:
   %k = const i64 18446744073709551615
@@ -14,6 +14,7 @@ entry:
   %g = gep %b, 8
   %l = load i32, %g
   %r = retag box %b, 8
+  %ra = retag shrcell %b, 8
   %x = sdiv i16 65535, %l
   %y = icmp sle ptr %b, %c
   %z = select i8 255, 1, %a

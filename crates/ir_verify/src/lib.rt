@@ -14,6 +14,7 @@ mod verified;
 mod verifier;
 
 pub use laws::{joins_find_handles, uses_are_assigned};
+pub use ir_rules::Rule;
 pub use refusal::VerifyFault;
 pub use verified::Verified;
 pub use verifier::verify;

@@ -10,33 +10,11 @@ ghost use Rattle.ir_verify.specs.Refusals.{IsRefusal};
 use crate::programs::program_fault;
 use crate::refusal::VerifyFault;
 use crate::verified::Verified;
-use bsan_ids::{ListOf, NoMemory};
+use bsan_ids::{Copied, NoMemory};
 use ir_assigned::unassigned;
-use ir_ast::{Block, Function, HostEntry, HostTable, Program};
+use ir_ast::{Block, Function, HostTable, Program};
 use ir_rules::{Fault, lesser_fault};
 use std::alloc::Global;
-
-fn copy_entry(entry: &HostEntry) -> Result<HostEntry, NoMemory>
-    ensures { IfOk result (λ e. e ≡ entry.now) }
-{
-    Ok(HostEntry {
-        name: entry.name.copy()?,
-        arity: entry.arity,
-        rule: entry.rule,
-    })
-}
-
-fn copy_table(alloc: Global, hosts: &HostTable) -> Result<HostTable, NoMemory>
-    ensures { IfOk result (λ t. t ≡ hosts.now) }
-{
-    let mut entries = ListOf::new(alloc);
-    let originals = hosts.entries.as_slice();
-    for entry in originals {
-        let copied = copy_entry(entry)?;
-        entries.push(copied)?;
-    }
-    Ok(HostTable { entries })
-}
 
 fn instructions_in(blocks: &[Block]) -> u32
     requires { sum_by block_instructions blocks.now ≤ most_instructions }
@@ -77,7 +55,7 @@ fn function_count(program: &Program) -> u32
     program.functions.len() as u32
 }
 
-fn accept(alloc: Global, program: Program, hosts: &HostTable) -> Result<Verified, NoMemory>
+fn accept(program: Program, hosts: &HostTable) -> Result<Verified, NoMemory>
     requires program { IsProgram program }
     requires few_hosts { length hosts.now.entries < 2 ^ 32 }
     requires accepted { IsAccepted program hosts.now }
@@ -85,7 +63,7 @@ fn accept(alloc: Global, program: Program, hosts: &HostTable) -> Result<Verified
 {
     let functions = function_count(&program);
     let instructions = program_instructions(&program);
-    let hosts = copy_table(alloc, hosts)?;
+    let hosts = hosts.copy()?;
     Ok(Verified {
         program,
         hosts,
@@ -127,7 +105,7 @@ pub fn verify(alloc: Global, program: Program, hosts: &HostTable) -> Result<Veri
             at: fault.at,
         }),
         None => {
-            let verified = accept(alloc, program, hosts)?;
+            let verified = accept(program, hosts)?;
             Ok(verified)
         }
     }

@@ -13,7 +13,8 @@ use Rattle.history.specs.declared.entry.Verdict.{Verdict}
 use Rattle.history.specs.declared.entry.Verdict.TheVariants.{Clean, Closed, Violated}
 use Rattle.ir_ast.specs.Words.{width_bytes, ty_bytes}
 use Rattle.run_record.specs.Merge.{stamp_of}
-use Rattle.report.specs.Words.{perm_name, kind_name}
+use Rattle.ir_ast.specs.Keywords.{kind_word}
+use Rattle.report.specs.Words.{perm_name}
 
 -- a word and a span of bytes, by its first offset and the offset behind its last
 abbrev pub span_text : List ℕ → ℕ → ℕ → List ℕ
@@ -27,7 +28,7 @@ deed_text (Store at ty value carried prov) = span_text (codes "write") at (ty_by
 deed_text (Modify at width op value prov) = span_text (codes "write") at (width_bytes width)
 deed_text (CmpXchg at width expected value prov) = span_text (codes "write") at (width_bytes width)
 deed_text (CopyIn at piece prov) = span_text (codes "write") at (length piece)
-deed_text (Retag at len kind guard prov) = codes "retag " ++ span_text (kind_name kind) at len
+deed_text (Retag at len kind guard prov) = codes "retag " ++ span_text (kind_word kind) at len
 deed_text (Free at stack prov) = codes "free"
 deed_text (EndProtector tag) = codes "end of protector " ++ decimal tag.0
 deed_text (Make size place) = []

@@ -2,8 +2,6 @@
 use Rattle.std.specs.Prelude.{ℕ, List, codes}
 use Rattle.perm_table.specs.declared.Perm.{Perm}
 use Rattle.perm_table.specs.declared.Perm.TheVariants as perm
-use Rattle.perm_table.specs.declared.RetagKind.{RetagKind}
-use Rattle.perm_table.specs.declared.RetagKind.TheVariants as kind
 use Rattle.history.specs.declared.trap.Trap.{Trap}
 use Rattle.history.specs.declared.trap.Trap.TheVariants as trap
 
@@ -15,13 +13,7 @@ perm_name perm.CellReserved = codes "CellReserved"
 perm_name perm.Unique = codes "Unique"
 perm_name perm.Frozen = codes "Frozen"
 perm_name perm.Disabled = codes "Disabled"
-
--- the word of a kind of retag in a program's text
-abbrev pub kind_name : RetagKind → List ℕ
-kind_name kind.Mut = codes "mut"
-kind_name kind.Cell = codes "cell"
-kind_name kind.Shr = codes "shr"
-kind_name kind.Boxed = codes "box"
+perm_name perm.Cell = codes "Cell"
 
 -- the name of a trap
 abbrev pub trap_name : Trap → List ℕ

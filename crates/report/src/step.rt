@@ -2,9 +2,9 @@
 ghost use Rattle.std.specs.Prelude.{◌≡◌, IfOk, string_bytes};
 ghost use Rattle.report.specs.Violation.{span_text, deed_text, owner_text, tag_text, through_text};
 
-use crate::words::kind_name;
 use bsan_ids::{AllocNo, Prov};
 use history::Request;
+use ir_ast::kind_word;
 use std::alloc::{AllocError, Global};
 
 fn span(alloc: Global, word: &str, at: u32, len: usize) -> Result<String, AllocError>
@@ -26,7 +26,7 @@ pub fn deed(alloc: Global, request: &Request) -> Result<String, AllocError>
         Request::CmpXchg { at, width, .. } => span(alloc, "write", *at, width.bytes() as usize),
         Request::CopyIn { at, piece, .. } => span(alloc, "write", *at, piece.len()),
         Request::Retag { at, len, kind, .. } => {
-            let bytes = span(alloc, kind_name(*kind), *at, *len as usize)?;
+            let bytes = span(alloc, kind_word(*kind), *at, *len as usize)?;
             format!(in alloc; "retag {bytes}")
         }
         Request::Free { .. } => format!(in alloc; "free"),

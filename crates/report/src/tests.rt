@@ -166,6 +166,7 @@ fn writes_each_violation(rt: HostRuntime) -> Result<(), Fail> {
         (RetagKind::Cell, "cell"),
         (RetagKind::Shr, "shr"),
         (RetagKind::Boxed, "box"),
+        (RetagKind::ShrCell, "shrcell"),
     ] {
         let retag = Request::Retag {
             at: 24,

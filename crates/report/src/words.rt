@@ -3,7 +3,7 @@ ghost use Rattle.std.specs.Prelude.{◌≡◌};
 ghost use Rattle.report.specs.Words as words;
 
 use history::Trap;
-use perm_table::{Perm, RetagKind};
+use perm_table::Perm;
 
 /// The name of a state.
 pub fn perm_name(perm: Perm) -> &'static str
@@ -16,18 +16,7 @@ pub fn perm_name(perm: Perm) -> &'static str
         Perm::Unique => "Unique",
         Perm::Frozen => "Frozen",
         Perm::Disabled => "Disabled",
-    }
-}
-
-/// The word of a kind of retag, as programs have it.
-pub fn kind_name(kind: RetagKind) -> &'static str
-    ensures { result.now ≡ words.kind_name kind }
-{
-    match kind {
-        RetagKind::Mut => "mut",
-        RetagKind::Cell => "cell",
-        RetagKind::Shr => "shr",
-        RetagKind::Boxed => "box",
+        Perm::Cell => "Cell",
     }
 }
 

@@ -41,7 +41,7 @@ fn entries_of(alloc: Global, logs: &[ThreadLog]) -> Result<Vec<Entry>, NoMemory>
 {
     let mut entries = Vec::new(alloc);
     for log in logs {
-        append_copies(log.entries.as_slice(), &mut entries)?;
+        append_copies(&mut entries, log.entries.as_slice())?;
     }
     Ok(entries)
 }

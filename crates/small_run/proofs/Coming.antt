@@ -1,6 +1,7 @@
 -- The thread goes on by each form of instruction, and by the parts of its return.
 use Rattle.std.proofs.Common.{◌≡◌, ℕ, zero, suc, ◌+◌, ◌*◌, ◌%◌, ◌/◌, ◌^◌, ◌<◌, ◌≤◌, Bool, true, false, List, [], ◌∷◌, ◌++◌, Option, Some, None, refl, sym, ap, ◌∙◌, subst, arith, lit<, length}
-use Rattle.std.specs.Prelude.{nat_eq, nat_lt, ◌||◌}
+use Rattle.std.specs.Prelude.{nat_eq, nat_lt, nat_le, ◌||◌, if◌then◌else◌}
+use Rattle.ir_ast.specs.Sizes.{most_size, most_size_of}
 use Rattle.bsan_ids.specs.declared.numbers.AllocNo.{AllocNo}
 use Rattle.bsan_ids.specs.declared.numbers.Prov.{Prov}
 use Rattle.perm_table.specs.declared.Guard.TheVariants.{Free}
@@ -135,10 +136,10 @@ retag_clear o off size kind guard prov s = by o.made where
   by None = refl
   by (Some m) = refl
 
-makes : (size : ℕ) → 8 ≤ size → size ≤ 65536 → make_part Stack (plain_arg size) ≡ Steps (Makes size Stack)
-makes size large small =
+makes : (version size : ℕ) → 8 ≤ size → size ≤ 65536 → make_part version Stack (plain_arg size) ≡ Steps (Makes size Stack)
+makes version size large small =
     let whole : size % 2 ^ 64 ≡ size = (let less : size < 2 ^ 64 = omega arith in mod-eq_of_lt less) in
-    rw whole (by_tests (nat_eq size 0) (nat_lt 65536 size) (not_zero size large) (not_more size small))
+    rw whole (by_tests (nat_eq size 0) (nat_lt (most_size_of version) size) (not_zero size large) (not_more (nat_le 2 version) size small))
   where
     by_tests : (a b : Bool) → a ≡ false → b ≡ false → make_by (a || b) Stack size ≡ Steps (Makes size Stack)
     by_tests true b x y = absurd (cc)
@@ -148,8 +149,9 @@ makes size large small =
     not_zero : (k : ℕ) → 8 ≤ k → nat_eq k 0 ≡ false
     not_zero k le = grind (arith, nat_tests)
 
-    not_more : (k : ℕ) → k ≤ 65536 → nat_lt 65536 k ≡ false
-    not_more k le = grind (arith, nat_tests)
+    not_more : (b : Bool) (k : ℕ) → k ≤ 65536 → nat_lt (if b then most_size else 65536) k ≡ false
+    not_more true k le = grind (arith, nat_tests)
+    not_more false k le = grind (arith, nat_tests)
 
 abbrev after_make : Jump → List Inst → ℕ → Named → Env → List Made → ℕ → ℕ → Source
 after_make term rest n r env stack stamp number =
@@ -269,7 +271,7 @@ make_goes program es term r size at rest n env stack number large small below h 
     let is : o.number ≡ number.0 = replay_number (unmade number.0) (of_alloc number.0 es) in
     let next : ComesTo program (es ++ e ∷ []) (after_make term rest n r env stack (length es + 1) o.number) =
     step_goes program es term (record { dest = Some r; at = at; op = op.Make Stack (Num size) }) rest n env stack e (Steps (Makes size Stack))
-    (makes size large small) refl (make_fits o e number size Stack is refl refl) refl refl below refl h in
+    (makes program.version size large small) refl (make_fits o e number size Stack is refl refl) refl refl below refl h in
     subst (λ (k : ℕ). ComesTo program (es ++ e ∷ []) (after_make term rest n r env stack (length es + 1) k)) is next
 
 -- the return -------------------------------------------------------------------------

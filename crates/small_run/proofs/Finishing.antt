@@ -42,13 +42,13 @@ from_parts ps bs = record {
   started = [];
 }
 
-start_is : (fs : List Function) (n : ℕ) (f : Function) (b : Block) → fs ≡ f ∷ [] → f.params ≡ [] → f.blocks ≡ b ∷ [] → main_start (record { functions = fs; «end» = n }) ≡ standing b.term.jump b.insts 0 [] []
-start_is fs n f b one params blocks =
-    let first : main_start (record { functions = fs; «end» = n }) ≡ from_parts f.params f.blocks = ap (λ (gs : List Function). main_start (record { functions = gs; «end» = n })) one in
+start_is : (version : ℕ) (fs : List Function) (n : ℕ) (f : Function) (b : Block) → fs ≡ f ∷ [] → f.params ≡ [] → f.blocks ≡ b ∷ [] → main_start (record { version = version; functions = fs; «end» = n }) ≡ standing b.term.jump b.insts 0 [] []
+start_is version fs n f b one params blocks =
+    let first : main_start (record { version = version; functions = fs; «end» = n }) ≡ from_parts f.params f.blocks = ap (λ (gs : List Function). main_start (record { version = version; functions = gs; «end» = n })) one in
     first ∙ ap (λ (ps : List Param). from_parts ps f.blocks) params ∙ ap (from_parts []) blocks
 
 pub starts_at : (program : Program) (f : Function) (b : Block) → program.functions ≡ f ∷ [] → f.params ≡ [] → f.blocks ≡ b ∷ [] → ComesTo program [] (standing b.term.jump b.insts 0 [] [])
-starts_at program f b one params blocks starts = (0, start_is program.functions program.«end» f b one params blocks)
+starts_at program f b one params blocks starts = (0, start_is program.version program.functions program.«end» f b one params blocks)
 
 -- the return ------------------------------------------------------------------------
 

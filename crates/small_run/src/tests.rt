@@ -81,7 +81,11 @@ fn program_of(alloc: Global, insts: ListOf<Inst>) -> Result<Program, NoMemory> {
         },
         blocks,
     })?;
-    Ok(Program { functions, end: 0 })
+    Ok(Program {
+        version: 1,
+        functions,
+        end: 0,
+    })
 }
 
 #[test]

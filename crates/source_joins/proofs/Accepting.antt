@@ -32,7 +32,7 @@ use Rattle.ir_rules.specs.Paths as paths
 use Rattle.ir_rules.specs.Paths.{Avoids}
 use Rattle.ir_rules.specs.Rules.{held, used, UseBreaks, IsAccepted}
 use Rattle.ir_rules.specs.Rules.Broken.{of_use, of_path, of_first, twice_register}
-use Rattle.source_sem.specs.Source.{block_place}
+use Rattle.ir_ast.specs.Numbers.{block_place}
 use Rattle.source_sem.specs.Joining.{params_define, dest_defines, insts_define, IsGoal, IsPath, IsUnassigned, StandsAt, IsSpawnOp, IsHandle, FunctionJoins, GivesValue}
 use Rattle.source_joins.proofs.Naming.{bytes_sym, hit, times, over, times-append, times-flat, over_one, over_at, over_two, over_apart, second_of, HandleIn, held_handle, handle-append, no_param_handle, no_use_handle, handle_inst, handle_block, inst_spawns}
 use Rattle.source_joins.specs.Accepted.{AcceptedProgramsJoin}
@@ -242,7 +242,7 @@ join_stands block done rest i ty at h insts is =
 
 -- all of it ---------------------------------------------------------------------------------
 
-module _ (p : Program) (hosts : HostTable) (ok : IsAccepted p hosts) (g : Function) (in_p : Contains p.functions g) (fn : IsFunction g) where
+module _ (p : Program) (hosts : HostTable) (ok : IsAccepted p hosts) (g : Function) (in_p : Contains p.functions g) (fn : IsFunction p.version g) where
   never_twice : (r : List ℕ) → 1 < times r (function_events g) → ⊥
   never_twice r more = let s = second_of r (function_events g) more in ok Twice s.0 (twice_register g s.0 in_p s.1)
 
@@ -316,8 +316,8 @@ module _ (p : Program) (hosts : HostTable) (ok : IsAccepted p hosts) (g : Functi
   -- an instruction with a destination gives a value
   dest_gives : (b : ℕ) (block : Block) (done rest : List Inst) (i : Inst) (n : Named) → StandsAt g b block done i rest → i.dest ≡ Some n → Defines i.op
   dest_gives b block done rest i n at is =
-      let shaped : IsBlock block = each_at IsBlock g.blocks b block fn.blocks at.is_block in
-      let inst : IsInst i = each_in IsInst done rest i (subst (Each IsInst) at.insts shaped.insts) in
+      let shaped : IsBlock p.version block = each_at (IsBlock p.version) g.blocks b block fn.blocks at.is_block in
+      let inst : IsInst p.version i = each_in (IsInst p.version) done rest i (subst (Each (IsInst p.version)) at.insts shaped.insts) in
       subst (λ d. FitsDestination d i.op) is inst.0
 
   some_dest : (i : Inst) (r : List ℕ) → dest_defines i.dest r ≡ true → (n : Named) × (i.dest ≡ Some n)
@@ -448,4 +448,4 @@ module _ (p : Program) (hosts : HostTable) (ok : IsAccepted p hosts) (g : Functi
 
 pub accepted_programs_join : AcceptedProgramsJoin
 accepted_programs_join p hosts program ok k g is =
-    function_joins p hosts ok g (contains_at p.functions k g is) (each_at IsFunction p.functions k g program.shaped.functions is)
+    function_joins p hosts ok g (contains_at p.functions k g is) (each_at (IsFunction p.version) p.functions k g program.shaped.functions is)

@@ -9,7 +9,8 @@ use Rattle.run_record.specs.declared.record.RunRecord.{RunRecord}
 use Rattle.runs.specs.Interleaving.{Allowed}
 use Rattle.runs.specs.Objects.{objects}
 use Rattle.runs.specs.Right.{IsRight}
-use Rattle.source_sem.specs.Source.{Setting, Source, source, source_start, function_place}
+use Rattle.ir_ast.specs.Numbers.{function_place}
+use Rattle.source_sem.specs.Source.{Setting, Source, source, source_start}
 
 abbrev pub setting_of : Program → List ℕ → HostTable → Setting
 setting_of program input hosts = record { program = program; input = input; hosts = map (λ h. h.name) hosts.entries; tracked = true }

@@ -55,7 +55,7 @@ main =
     (ret_of (number 0)) ∷ [])
 
 abbrev pub program : Program
-program = record { functions = f ∷ main ∷ []; end = 0 }
+program = record { version = 1; functions = f ∷ main ∷ []; end = 0 }
 
 abbrev pub no_hosts : HostTable
 no_hosts = record { entries = [] }

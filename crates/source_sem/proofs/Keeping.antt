@@ -24,7 +24,7 @@ use Rattle.source_sem.specs.Plain.{erased_arg, Reads, erased_progress, erased_st
 use Rattle.perm_table.specs.declared.RetagKind.{RetagKind}
 use Rattle.perm_table.specs.declared.Guard.{Guard}
 use Rattle.perm_table.specs.declared.Guard.TheVariants.{Free}
-use Rattle.source_sem.specs.Source.{guard_of}
+use Rattle.ir_ast.specs.Attributes.{guard_of}
 use Rattle.source_sem.proofs.Reading.{reads_some, step_ask_erased, copy_ask_erased, answers_erased, number_erased, trap_erased, copy_after_erased, step_result_erased, step_owned_erased, step_started_erased}
 use Rattle.source_sem.proofs.Mirroring.{fr, ready_top, resumed_alike, leave_alike, returned_erased, insts_child_alike, same_part}
 

@@ -15,7 +15,7 @@ use Rattle.ir_ast.specs.declared.types.Ty.TheVariants.{Int}
 use Rattle.ir_ast.specs.declared.types.Width.TheVariants.{W64}
 use Rattle.source_sem.specs.Traces.{named}
 use Rattle.std.specs.declared.option.Option.{Option}
-use Rattle.source_sem.specs.Source.{block_place}
+use Rattle.ir_ast.specs.Numbers.{block_place}
 use Rattle.source_sem.specs.Joining.{params_define, dest_defines, insts_define, IsGoal, GoesTo, AvoidsBlock, IsPath, IsUnassigned, StandsAt, IsSpawnOp, IsHandle, FunctionJoins, JoinsAccepted, GivesValue}
 use Rattle.source_sem.specs.Looping.{child_block, child, spawns, joins, adds, compares, joins_first, joins_second, entry_block, loop_block, branch_block, first_arm, second_arm, looping, program}
 

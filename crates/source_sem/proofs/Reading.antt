@@ -35,7 +35,9 @@ use Rattle.source_sem.specs.Env.{Env, blank, plain_arg, value_in, operand, arg_o
 use Rattle.ir_ast.specs.Arithmetic.{Worked, word, div_zero, shift_too_far, worked}
 use Rattle.source_sem.specs.Parts.{Step, Access, Gives, Steps, Makes, Accesses, Prints, Hosts, Spawns, Loads, Stores, Modifies, Compares, Frees, Made, Owned, Progress, number_at, access_request, step_ask, copy_ask, copy_ask_by, copy_after, copied_of, number_in, step_owned, step_started, step_result, access_result, with_stack, moved, worked_part, binary_part, compared, chosen, cast_arg, input_arg, make_by, make_part, makes_step, retag_part, copy_by, copy_part, call_part, nth_value, host_part, join_part}
 use Rattle.std.specs.Prelude.{nat_lt}
-use Rattle.source_sem.specs.Source.{function_place, host_place, attr_named, handle_attr, Setting, op_part, plain_setting, has_step, to_retag}
+use Rattle.ir_ast.specs.Numbers.{function_place, place}
+use Rattle.ir_ast.specs.Attributes.{attr_of_call}
+use Rattle.source_sem.specs.Source.{handle_attr, Setting, op_part, plain_setting, has_step, to_retag}
 use Rattle.source_sem.specs.Plain.{erased_arg, erased_args, Reads, erased_half, erased_progress, erased_made, erased_stack, erased_owned, erased_ask, erased_access, erased_step, erased_option, plain_part}
 
 pub ap2 : {A B C : Type 0} (f : A → B → C) {a b : A} {c d : B} → a ≡ b → c ≡ d → f a c ≡ f b d
@@ -136,7 +138,7 @@ nth_plain (v ∷ vs) (suc k) = nth_plain vs k
 pub part_alike : (x : Setting) (k depth : ℕ) (env bare : Env) → Reads env bare → (o : Op) → op_part (plain_setting x) k depth bare o ≡ plain_part (op_part x k depth env o)
 part_alike x k depth env bare reads (op.Const w v) = refl
 part_alike x k depth env bare reads op.Null = refl
-part_alike x k depth env bare reads (op.Make place size) = ap (make_part place) (read_operand env bare reads size) ∙ make_plain _ place _
+part_alike x k depth env bare reads (op.Make place size) = ap (make_part x.program.version place) (read_operand env bare reads size) ∙ make_plain _ place _
 part_alike x k depth env bare reads (op.Gep p v) = ap2 (λ a b. Gives (Some (moved a b))) (reads p.name) (read_operand env bare reads v)
 part_alike x k depth env bare reads (op.Load ty p) = ap (λ a. Steps (Accesses a (Loads ty))) (reads p.name)
 part_alike x k depth env bare reads (op.Store ty v p) = ap2 (λ a b. Steps (Accesses a (Stores ty b))) (reads p.name) (read_operand env bare reads v)
@@ -162,9 +164,9 @@ part_alike x k depth env bare reads (op.Copy d s v) =
     ∙ copy_plain _ (value_in env d.name) (value_in env s.name) _
 part_alike x k depth env bare reads (op.Free p) = ap (λ a. Steps (Accesses a Frees)) (reads p.name)
 part_alike x k depth env bare reads (op.Print w v) = ap (λ a. Steps (Prints (a.value % 2 ^ bits w))) (read_operand env bare reads v)
-part_alike x k depth env bare reads (op.Call ty name args) = ap (λ z. call_part (nat_lt depth 1024) (function_place x.program.functions name.name) z ty (attr_named x.program.functions name.name)) (read_args env bare reads args) ∙ call_plain (nat_lt depth 1024) (function_place x.program.functions name.name) (args_of env args) ty (attr_named x.program.functions name.name)
+part_alike x k depth env bare reads (op.Call ty name args) = ap (λ z. call_part (nat_lt depth 1024) (function_place x.program.functions name.name) z ty (attr_of_call x.program.functions name.name)) (read_args env bare reads args) ∙ call_plain (nat_lt depth 1024) (function_place x.program.functions name.name) (args_of env args) ty (attr_of_call x.program.functions name.name)
 part_alike x k depth env bare reads (op.Host ty name args) =
-    ap (host_part (host_place x.hosts name.name)) (read_args env bare reads args) ∙ ap2 (λ a b. Steps (Hosts (host_place x.hosts name.name) a b)) (nth_plain (args_of env args) 0) (nth_plain (args_of env args) 1)
+    ap (host_part (place x.hosts name.name)) (read_args env bare reads args) ∙ ap2 (λ a b. Steps (Hosts (place x.hosts name.name) a b)) (nth_plain (args_of env args) 0) (nth_plain (args_of env args) 1)
 part_alike x k depth env bare reads (op.Spawn name args) = ap (λ z. Steps (Spawns (function_place x.program.functions name.name) z)) (read_args env bare reads args)
 part_alike x k depth env bare reads (op.Join ty at h) = ap (λ z. join_part z ty (handle_attr x.program.functions k h.name)) (reads h.name)
 

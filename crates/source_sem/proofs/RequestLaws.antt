@@ -1,6 +1,7 @@
 -- Each request that a thread asks fits.
-use Rattle.std.proofs.Common.{◌≡◌, ℕ, zero, suc, ◌-◌, ◌*◌, ◌%◌, ◌^◌, ◌<◌, ◌≤◌, List, [], ◌∷◌, length, Bool, true, false, refl, sym, subst, arith, min}
-use Rattle.std.specs.Prelude.{Option, Some, None, nat_le, nat_lt, nat_eq, ◌||◌, ◌&&◌, slice_get}
+use Rattle.std.proofs.Common.{◌≡◌, ℕ, zero, suc, ◌-◌, ◌*◌, ◌%◌, ◌^◌, ◌<◌, ◌≤◌, List, [], ◌∷◌, length, Bool, true, false, refl, sym, subst, arith, lit≤, min}
+use Rattle.std.specs.Prelude.{Option, Some, None, nat_le, nat_lt, nat_eq, ◌||◌, ◌&&◌, slice_get, if◌then◌else◌}
+use Rattle.ir_ast.specs.Sizes.{most_size, most_size_of}
 use Rattle.std.proofs.lemmas.Bool.{true≢false}
 use Rattle.std.proofs.lemmas.Bool.Decides.{nat_tests}
 use Rattle.bsan_ids.specs.declared.numbers.Prov.{Prov}
@@ -41,13 +42,14 @@ use Rattle.runs.specs.Parts.{Answers}
 use Rattle.runs.specs.Erasure.{trap_of}
 use Rattle.source_sem.specs.Env.{Env, at_width, bits, operand}
 use Rattle.source_sem.specs.Parts.{Part, Step, Access, Gives, Fails, Steps, Retags, Copies, Calls, Joins, Makes, Accesses, Prints, Hosts, Spawns, Loads, Stores, Modifies, Compares, Frees, Made, Progress, untouched, copy_ask_by, copy_ask, copied_of, copy_after, copy_after_by, copy_done, access_request, step_ask, retag_ask, release_by, release_ask, released, number_in, part_ask, worked_part, make_by, makes_step, retag_part, copy_by, call_part}
-use Rattle.source_sem.specs.Source.{Setting, Source, Frame, Doing, Ready, Entering, Copying, Waiting, Retagging, Leaving, op_part, source_start, source_begins, counted, counted_if, frames_turn, ready_turn, part_turn, term_turn, return_to, resumed, resumed_by, result_step, in_block, goto_in, has_step, to_retag, entering, frame_of, frames_answer, doing_answer, ready_answer, part_answer, term_answer, leave, joined, returned_value, entered, copy_on, copying_part, copying_answer, entering_answer, part_child, insts_child, frames_child, frames_ask, doing_ask, ready_ask, term_ask, copying_ask, copying_by, entry_ask, entering_ask, release_or, nowhere, guard_of, CopiedOf, ReplyFits, frames_type}
+use Rattle.ir_ast.specs.Attributes.{guard_of}
+use Rattle.source_sem.specs.Source.{Setting, Source, Frame, Doing, Ready, Entering, Copying, Waiting, Retagging, Leaving, op_part, source_start, source_begins, counted, counted_if, frames_turn, ready_turn, part_turn, term_turn, return_to, resumed, resumed_by, result_step, in_block, goto_in, has_step, to_retag, entering, frame_of, frames_answer, doing_answer, ready_answer, part_answer, term_answer, leave, joined, returned_value, entered, copy_on, copying_part, copying_answer, entering_answer, part_child, insts_child, frames_child, frames_ask, doing_ask, ready_ask, term_ask, copying_ask, copying_by, entry_ask, entering_ask, release_or, nowhere, CopiedOf, ReplyFits, frames_type}
 use Rattle.source_sem.specs.Requests.{IsSized, AllSized, HalfFits, CopyGoes, CopyStands, DoingFits, TopFits, RequestLaw}
 
 -- what an instruction does ---------------------------------------------------------
 
 abbrev PartFits : Part → Type 0
-PartFits (Steps (Makes n place)) = (0 < n) × (n ≤ 65536)
+PartFits (Steps (Makes n place)) = (0 < n) × (n ≤ most_size)
 PartFits (Retags p kind n) = 0 < n
 PartFits (Copies d s n) = copy_done n untouched ≡ false
 PartFits other = Unit {0}
@@ -57,9 +59,16 @@ worked_fits (word n) = tt
 worked_fits div_zero = tt
 worked_fits shift_too_far = tt
 
-make_fits : (place : Place) (n : ℕ) (b : Bool) → (nat_eq n 0 || nat_lt 65536 n) ≡ b → PartFits (make_by b place n)
-make_fits place n true is = tt
-make_fits place n false is = (grind (arith, nat_tests), grind (arith, nat_tests))
+size_within : (version : ℕ) → most_size_of version ≤ most_size
+size_within version = by_test (nat_le 2 version)
+  where
+    by_test : (b : Bool) → (if b then most_size else 65536) ≤ most_size
+    by_test true = lit≤ tt
+    by_test false = lit≤ tt
+
+make_fits : (most : ℕ) → most ≤ most_size → (place : Place) (n : ℕ) (b : Bool) → (nat_eq n 0 || nat_lt most n) ≡ b → PartFits (make_by b place n)
+make_fits most le place n true is = tt
+make_fits most le place n false is = (grind (arith, nat_tests), grind (arith, nat_tests))
 
 sized : (tracked : Bool) (n : ℕ) → makes_step tracked n ≡ true → 0 < n
 sized true (suc n) is = omega arith
@@ -79,7 +88,7 @@ call_fits true k xs ty attr = tt
 call_fits false k xs ty attr = tt
 
 op_fits : (x : Setting) (k depth : ℕ) (env : Env) (o : Op) → PartFits (op_part x k depth env o)
-op_fits x k depth env (op.Make place size) = make_fits place ((operand env size).value % 2 ^ 64) _ refl
+op_fits x k depth env (op.Make place size) = make_fits (most_size_of x.program.version) (size_within x.program.version) place ((operand env size).value % 2 ^ 64) _ refl
 op_fits x k depth env (op.Retag kind p n) = retag_fits x.tracked _ kind n _ refl
 op_fits x k depth env (op.Binary o w a b) = worked_fits _
 op_fits x k depth env (op.Copy d s v) = copy_fits _ _ ((operand env v).value % 2 ^ 64) _ refl

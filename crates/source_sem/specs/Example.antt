@@ -53,7 +53,7 @@ m = record {
 }
 
 abbrev pub setting : Setting
-setting = record { program = record { functions = f ∷ m ∷ []; end = 0 }; input = []; hosts = []; tracked = true }
+setting = record { program = record { version = 1; functions = f ∷ m ∷ []; end = 0 }; input = []; hosts = []; tracked = true }
 
 abbrev pub one : AllocNo
 one = record { 0 = 1 }

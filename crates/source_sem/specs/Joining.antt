@@ -21,7 +21,8 @@ use Rattle.history.specs.declared.ask.Ask.TheVariants as ask
 use Rattle.runs.specs.Parts.{Answers}
 use Rattle.source_sem.specs.Parts.{Owned}
 use Rattle.source_sem.specs.Plain.{IsWaiting}
-use Rattle.source_sem.specs.Source.{Setting, Source, Frame, Doing, Ready, Entering, Copying, Waiting, Retagging, Leaving, block_place, source_start, source_child, source_ask, source_turn, source_answer, source_fits}
+use Rattle.ir_ast.specs.Numbers.{block_place}
+use Rattle.source_sem.specs.Source.{Setting, Source, Frame, Doing, Ready, Entering, Copying, Waiting, Retagging, Leaving, source_start, source_child, source_ask, source_turn, source_answer, source_fits}
 
 -- does one of these define the register
 abbrev pub params_define : List Param → List ℕ → Bool

@@ -64,4 +64,4 @@ abbrev pub looping : Function
 looping = function (109 ∷ 97 ∷ 105 ∷ 110 ∷ []) [] (gives (Int W64)) (entry_block ∷ loop_block ∷ branch_block ∷ first_arm ∷ second_arm ∷ [])
 
 abbrev pub program : Program
-program = record { functions = child ∷ looping ∷ []; end = 0 }
+program = record { version = 1; functions = child ∷ looping ∷ []; end = 0 }

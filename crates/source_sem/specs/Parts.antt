@@ -26,6 +26,7 @@ use Rattle.ir_ast.specs.declared.types.Attr.{Attr}
 use Rattle.ir_ast.specs.declared.operators.BinaryOp.{BinaryOp}
 use Rattle.ir_ast.specs.declared.operators.CastOp.{CastOp}
 use Rattle.ir_ast.specs.declared.operators.Cond.{Cond}
+use Rattle.ir_ast.specs.Sizes.{most_size_of}
 use Rattle.ir_ast.specs.Arithmetic.{Worked, word, div_zero, shift_too_far, worked, holds, cast_word}
 use Rattle.source_sem.specs.Env.{plain_arg, bits, prov_at, word_bits, at_width}
 
@@ -221,8 +222,9 @@ abbrev pub make_by : Bool → Place → ℕ → Part
 make_by true place n = Fails trap.BadSize
 make_by false place n = Steps (Makes n place)
 
-abbrev pub make_part : Place → Arg → Part
-make_part place a = make_by (nat_eq (a.value % 2 ^ 64) 0 || nat_lt 65536 (a.value % 2 ^ 64)) place (a.value % 2 ^ 64)
+-- an allocation in a program of this version
+abbrev pub make_part : ℕ → Place → Arg → Part
+make_part version place a = make_by (nat_eq (a.value % 2 ^ 64) 0 || nat_lt (most_size_of version) (a.value % 2 ^ 64)) place (a.value % 2 ^ 64)
 
 -- a retag of 0 bytes makes no step, and none does in the plain program
 abbrev pub makes_step : Bool → ℕ → Bool

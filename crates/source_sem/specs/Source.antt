@@ -1,13 +1,12 @@
 -- The source thread: frames over the text, registers by name. With `tracked` false it is the thread of the plain program.
 use Rattle.std.specs.Prelude.{◌≡◌, ◌<◌, ◌⊎◌, ℕ, zero, suc, ◌+◌, ◌%◌, ◌^◌, List, [], ◌∷◌, Option, Some, None, Bool, true, false, if◌then◌else◌, length, nat_lt, slice_get}
-use Rattle.std.specs.Str.{bytes_eq}
+use Rattle.std.specs.Option.{option_and_then}
 use Rattle.bsan_ids.specs.declared.numbers.AllocNo.{AllocNo}
 use Rattle.history.specs.declared.ask.Arg.{Arg}
 use Rattle.history.specs.declared.ask.Ask.{Ask}
 use Rattle.history.specs.declared.ask.Ask.TheVariants as ask
 use Rattle.history.specs.declared.entry.Entry.{Entry}
-use Rattle.perm_table.specs.declared.Guard.{Guard}
-use Rattle.perm_table.specs.declared.Guard.TheVariants.{Free, Weak, Strong}
+use Rattle.perm_table.specs.declared.Guard.TheVariants.{Free}
 use Rattle.history.specs.declared.ask.MachineEnd.{MachineEnd}
 use Rattle.history.specs.declared.ask.MachineEnd.TheVariants as end
 use Rattle.history.specs.declared.entry.Plain.{Plain}
@@ -15,10 +14,10 @@ use Rattle.history.specs.declared.entry.Plain.TheVariants as plain
 use Rattle.history.specs.declared.entry.Reply.{Reply}
 use Rattle.history.specs.declared.entry.Request.{Request}
 use Rattle.history.specs.declared.entry.Request.TheVariants as request
-use Rattle.perm_table.specs.declared.RetagKind.{RetagKind}
-use Rattle.perm_table.specs.declared.RetagKind.TheVariants as kind
 use Rattle.history.specs.declared.trap.Trap.{Trap}
 use Rattle.history.specs.declared.trap.Trap.TheVariants as trap
+use Rattle.ir_ast.specs.Numbers.{place, function_place, block_place, number_of_block, number_of_function}
+use Rattle.ir_ast.specs.Attributes.{guard_of, attr_of_call, definitions, attr_of_handle}
 use Rattle.ir_ast.specs.declared.types.Ty.{Ty}
 use Rattle.ir_ast.specs.declared.types.Ty.TheVariants.{Int, Ptr}
 use Rattle.ir_ast.specs.declared.types.Width.TheVariants.{W64}
@@ -74,78 +73,15 @@ pub record Source : Type 0 where
   pub count : ℕ
   pub started : List ℕ
 
-abbrev pub guard_of : RetagKind → Guard
-guard_of kind.Boxed = Weak
-guard_of other = Strong
-
--- numbers of instructions
-abbrev pub block_count : Block → ℕ
-block_count b = length b.insts + 1
-
-abbrev pub number_of_block : ℕ → List Block → ℕ → ℕ
-number_of_block base bs zero = base
-number_of_block base [] (suc k) = base
-number_of_block base (b ∷ bs) (suc k) = number_of_block (base + block_count b) bs k
-
-abbrev pub blocks_end : ℕ → List Block → ℕ
-blocks_end base [] = base
-blocks_end base (b ∷ bs) = blocks_end (base + block_count b) bs
-
-abbrev pub number_of_function : ℕ → List Function → ℕ → ℕ
-number_of_function base [] k = base
-number_of_function base (f ∷ fs) zero = base
-number_of_function base (f ∷ fs) (suc k) = number_of_function (blocks_end base f.blocks) fs k
-
--- the place of a name, and the length where it isn't there
-abbrev pub function_place : List Function → List ℕ → ℕ
-function_place [] name = 0
-function_place (f ∷ fs) name = if bytes_eq f.name.name name then 0 else suc (function_place fs name)
-
-abbrev pub block_place : List Block → List ℕ → ℕ
-block_place [] label = 0
-block_place (b ∷ bs) label = if bytes_eq b.label.name label then 0 else suc (block_place bs label)
-
-abbrev pub host_place : List (List ℕ) → List ℕ → ℕ
-host_place [] name = 0
-host_place (h ∷ hs) name = if bytes_eq h name then 0 else suc (host_place hs name)
-
--- the attribute of a function's result
-abbrev pub result_attr : Option Function → Option Attr
-result_attr None = None
-result_attr (Some g) = g.result.attr
-
-abbrev pub attr_named : List Function → List ℕ → Option Attr
-attr_named fs name = result_attr (slice_get fs (function_place fs name))
-
--- the attribute of the result of the function that was spawned through a handle
-abbrev pub is_dest : Option Named → List ℕ → Bool
-is_dest None h = false
-is_dest (Some n) h = bytes_eq n.name h
-
-abbrev pub spawn_attr : List Function → Op → Option Attr
-spawn_attr fs (op.Spawn function args) = attr_named fs function.name
-spawn_attr fs other = None
-
-abbrev pub insts_attr : List Function → List ℕ → List Inst → Option Attr → Option Attr
-insts_attr fs h [] miss = miss
-insts_attr fs h (i ∷ is) miss = if is_dest i.dest h then spawn_attr fs i.op else insts_attr fs h is miss
-
-abbrev pub blocks_attr : List Function → List ℕ → List Block → Option Attr
-blocks_attr fs h [] = None
-blocks_attr fs h (b ∷ bs) = insts_attr fs h b.insts (blocks_attr fs h bs)
-
-abbrev pub handle_attr_in : List Function → List ℕ → Option Function → Option Attr
-handle_attr_in fs h None = None
-handle_attr_in fs h (Some g) = blocks_attr fs h g.blocks
-
+-- the attribute of what a join through a handle gives, in function k
 abbrev pub handle_attr : List Function → ℕ → List ℕ → Option Attr
-handle_attr fs k h = handle_attr_in fs h (slice_get fs k)
+handle_attr fs k h = option_and_then (λ g. attr_of_handle (definitions fs g) h) (slice_get fs k)
 
 -- what an instruction does, in function k, at this depth of frames, with these registers
 abbrev pub op_part : Setting → ℕ → ℕ → Env → Op → Part
 op_part x k depth env (op.Const w v) = Gives (Some (plain_arg (v % 2 ^ bits w)))
 op_part x k depth env op.Null = Gives (Some blank)
-op_part x k depth env (op.Make place size) = make_part place (operand env size)
+op_part x k depth env (op.Make place size) = make_part x.program.version place (operand env size)
 op_part x k depth env (op.Gep p v) = Gives (Some (moved (value_in env p.name) (operand env v)))
 op_part x k depth env (op.Load ty p) = Steps (Accesses (value_in env p.name) (Loads ty))
 op_part x k depth env (op.Store ty v p) = Steps (Accesses (value_in env p.name) (Stores ty (operand env v)))
@@ -162,8 +98,8 @@ op_part x k depth env (op.Copy d s v) = copy_part (value_in env d.name) (value_i
 op_part x k depth env (op.Free p) = Steps (Accesses (value_in env p.name) Frees)
 op_part x k depth env (op.Print w v) = Steps (Prints ((operand env v).value % 2 ^ bits w))
 op_part x k depth env (op.Call ty name args) =
-    call_part (nat_lt depth 1024) (function_place x.program.functions name.name) (args_of env args) ty (attr_named x.program.functions name.name)
-op_part x k depth env (op.Host ty name args) = host_part (host_place x.hosts name.name) (args_of env args)
+    call_part (nat_lt depth 1024) (function_place x.program.functions name.name) (args_of env args) ty (attr_of_call x.program.functions name.name)
+op_part x k depth env (op.Host ty name args) = host_part (place x.hosts name.name) (args_of env args)
 op_part x k depth env (op.Spawn name args) = Steps (Spawns (function_place x.program.functions name.name) (args_of env args))
 op_part x k depth env (op.Join ty at h) = join_part (value_in env h.name) ty (handle_attr x.program.functions k h.name)
 

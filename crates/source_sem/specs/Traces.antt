@@ -97,7 +97,7 @@ abbrev pub ret_of : TypedVal → Jump
 ret_of v = jump.Ret (Some v) 0
 
 abbrev pub of_functions : List Function → Setting
-of_functions functions = record { program = record { functions = functions; end = 0 }; input = []; hosts = []; tracked = true }
+of_functions functions = record { program = record { version = 1; functions = functions; end = 0 }; input = []; hosts = []; tracked = true }
 
 -- replies ---------------------------------------------------------------------------
 

@@ -37,7 +37,7 @@ use Rattle.ir_rules.specs.Occurrences.Event.{defines, uses}
 use Rattle.ir_rules.specs.Rules.{held, used, UseBreaks, NameBreaks, CallFits, SpawnFits, HostFits, IsHostType, GoalFits, RetBreaks, JoinBreaks, OpBreaks, IsAccepted, function_named, host_named, function_ops, param_types, arg_types}
 use Rattle.ir_rules.specs.Rules.Broken.{of_use, of_op, of_ret, of_goal, twice_register}
 use Rattle.source_sem.specs.Env.{word_bits}
-use Rattle.source_sem.specs.Source.{block_place, function_place}
+use Rattle.ir_ast.specs.Numbers.{block_place, function_place}
 use Rattle.source_sem.proofs.Reading.{bytes_eq_same}
 use Rattle.source_joins.proofs.Naming.{hit, times, second_of}
 use Rattle.source_words.specs.Typing.{DestHolds, OperandTyped, ArgTyped, ParamTyped, Callee, OpTyped, InstTyped, GoalTyped, JumpTyped, BlockTyped, FunctionTyped, ProgramTyped}
@@ -220,7 +220,7 @@ module _ (p : Program) (hosts : HostTable) (ok : IsAccepted p hosts) (g : Functi
     | inr other ↦ absurd (subst (λ (z : Option Holds). (rule : Rule) (place : ℕ) → JoinBreaks z p.functions result at rule place → ⊥) is kept BadCall at (f, function_names p.functions name f found, refl, other))
   ]
 
-  op_typed : (o : Op) → IsOp o → OpStands o → Each (UseHeld g) (op_uses o) → OpKept o → OpTyped p g o
+  op_typed : (o : Op) → IsOp p.version o → OpStands o → Each (UseHeld g) (op_uses o) → OpKept o → OpTyped p g o
   op_typed (op.Retag kind r n) is stands us kept = us.0
   op_typed (op.PtrToInt r) is stands us kept = us.0
   op_typed (op.Select ty c a b) is stands us kept =
@@ -250,7 +250,7 @@ module _ (p : Program) (hosts : HostTable) (ok : IsAccepted p hosts) (g : Functi
   op_typed (op.Join result at h) is stands us kept =
       let name : List ℕ = us.0.0 in (name, us.0.1, joined (held (function_events g) h.name) name result at us.0.1 kept)
 
-  inst_typed : (i : Inst) → IsInst i → InstStands i → Each (EventHeld g) (inst_events i) → OpKept i.op → InstTyped p g i
+  inst_typed : (i : Inst) → IsInst p.version i → InstStands i → Each (EventHeld g) (inst_events i) → OpKept i.op → InstTyped p g i
   inst_typed i is stands events kept =
       let front : List Event = map uses (op_uses i.op) in
       let back : List Event = dest_events i.dest (op_gives i.op) in
@@ -259,7 +259,7 @@ module _ (p : Program) (hosts : HostTable) (ok : IsAccepted p hosts) (g : Functi
         dest = dest_holds g i.dest i.op is.0 (each_right (EventHeld g) front back events);
       }
 
-  insts_typed : (is : List Inst) → Each IsInst is → Each InstStands is → Each (EventHeld g) (flat_map inst_events is) → Each OpKept (map (λ i. i.op) is) → Each (InstTyped p g) is
+  insts_typed : (is : List Inst) → Each (IsInst p.version) is → Each InstStands is → Each (EventHeld g) (flat_map inst_events is) → Each OpKept (map (λ i. i.op) is) → Each (InstTyped p g) is
   insts_typed [] shaped stands events kept = tt
   insts_typed (i ∷ is) shaped stands events kept = (
     inst_typed i shaped.0 stands.0 (each_left (EventHeld g) (inst_events i) (flat_map inst_events is) events) kept.0,
@@ -313,7 +313,7 @@ module _ (p : Program) (hosts : HostTable) (ok : IsAccepted p hosts) (g : Functi
   params_typed : (ps : List Param) → Each (EventHeld g) (map param_event ps) → Each (ParamTyped g) ps
   params_typed ps events = each_map (EventHeld g) param_event ps events
 
-  block_typed : (b : Block) → IsBlock b → BlockStands b → Each (EventHeld g) (block_events b) → Each OpKept (map (λ i. i.op) b.insts) → BlockKept b → BlockTyped p g b
+  block_typed : (b : Block) → IsBlock p.version b → BlockStands b → Each (EventHeld g) (block_events b) → Each OpKept (map (λ i. i.op) b.insts) → BlockKept b → BlockTyped p g b
   block_typed b is stands events ops kept =
       let ps : List Event = map param_event b.params in
       let insts : List Event = flat_map inst_events b.insts in
@@ -325,14 +325,14 @@ module _ (p : Program) (hosts : HostTable) (ok : IsAccepted p hosts) (g : Functi
         term = jump_typed b.term.jump is.term stands.1 (each_map (EventHeld g) uses (jump_uses b.term.jump) (each_right (EventHeld g) (ps ++ insts) js events)) kept.0 kept.1;
       }
 
-  blocks_typed : (bs : List Block) → Each IsBlock bs → Each BlockStands bs → Each (EventHeld g) (flat_map block_events bs) → Each OpKept (flat_map (λ b. map (λ i. i.op) b.insts) bs) → Each BlockKept bs → Each (BlockTyped p g) bs
+  blocks_typed : (bs : List Block) → Each (IsBlock p.version) bs → Each BlockStands bs → Each (EventHeld g) (flat_map block_events bs) → Each OpKept (flat_map (λ b. map (λ i. i.op) b.insts) bs) → Each BlockKept bs → Each (BlockTyped p g) bs
   blocks_typed [] is stands events ops kept = tt
   blocks_typed (b ∷ bs) is stands events ops kept = (
     block_typed b is.0 stands.0 (each_left (EventHeld g) (block_events b) (flat_map block_events bs) events) (each_left OpKept (map (λ i. i.op) b.insts) _ ops) kept.0,
     blocks_typed bs is.1 stands.1 (each_right (EventHeld g) (block_events b) (flat_map block_events bs) events) (each_right OpKept (map (λ i. i.op) b.insts) _ ops) kept.1,
   )
 
-  function_typed : IsFunction g → FunctionStands g → FunctionTyped p g
+  function_typed : IsFunction p.version g → FunctionStands g → FunctionTyped p g
   function_typed is stands =
       let ps : List Event = map param_event g.params in
       let bs : List Event = flat_map block_events g.blocks in
@@ -344,7 +344,7 @@ module _ (p : Program) (hosts : HostTable) (ok : IsAccepted p hosts) (g : Functi
 
 pub program_typed : (p : Program) (hosts : HostTable) → IsProgram p → IsAccepted p hosts → ProgramTyped p
 program_typed p hosts program ok =
-    each_all (λ f. ((f_in : Contains p.functions f) × IsFunction f × FunctionStands f)) (FunctionTyped p) (λ f known. function_typed p hosts ok f known.0 known.1 known.2) p.functions
-    (each_all (λ f. (Contains p.functions f × (IsFunction f × FunctionStands f))) (λ f. ((f_in : Contains p.functions f) × IsFunction f × FunctionStands f)) (λ f known. (known.0, known.1.0, known.1.1)) p.functions
-    (each_both (λ f. Contains p.functions f) (λ f. IsFunction f × FunctionStands f) p.functions (each_from (λ f. Contains p.functions f) p.functions (λ f i. in_contains f p.functions i))
-    (each_both IsFunction FunctionStands p.functions program.shaped.functions (program_stands p program.spelled))))
+    each_all (λ f. ((f_in : Contains p.functions f) × IsFunction p.version f × FunctionStands f)) (FunctionTyped p) (λ f known. function_typed p hosts ok f known.0 known.1 known.2) p.functions
+    (each_all (λ f. (Contains p.functions f × (IsFunction p.version f × FunctionStands f))) (λ f. ((f_in : Contains p.functions f) × IsFunction p.version f × FunctionStands f)) (λ f known. (known.0, known.1.0, known.1.1)) p.functions
+    (each_both (λ f. Contains p.functions f) (λ f. IsFunction p.version f × FunctionStands f) p.functions (each_from (λ f. Contains p.functions f) p.functions (λ f i. in_contains f p.functions i))
+    (each_both (IsFunction p.version) FunctionStands p.functions program.shaped.functions (program_stands p program.spelled))))

@@ -10,7 +10,7 @@ use Rattle.ir_ast.specs.declared.types.Ty.{Ty}
 use Rattle.ir_ast.specs.declared.types.Ty.TheVariants.{Int, Ptr}
 use Rattle.ir_ast.specs.declared.types.Width.TheVariants.{W8, W16, W32, W64}
 use Rattle.ir_rules.specs.Rules.{function_named, block_named}
-use Rattle.source_sem.specs.Source.{function_place, block_place}
+use Rattle.ir_ast.specs.Numbers.{function_place, block_place}
 use Rattle.source_joins.proofs.Naming.{bytes_sym}
 
 abbrev pub Decided : {A : Type 0} → A → A → Type 0

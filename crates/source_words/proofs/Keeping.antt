@@ -37,7 +37,8 @@ use Rattle.runs.specs.Parts.{Answers}
 use Rattle.runs.specs.Erasure.{trap_of}
 use Rattle.source_sem.specs.Env.{Env, blank, value_in, arg_of, args_of, word_bits, put, put_some}
 use Rattle.source_sem.specs.Parts.{Part, Step, Access, Gives, Fails, Steps, Retags, Copies, Calls, Joins, Makes, Accesses, Prints, Hosts, Spawns, Loads, Stores, Modifies, Compares, Frees, Progress, untouched, Owned, copy_after, copy_after_by, copied_of, copy_done, released, release_ask, release_by, number_in, step_ask, step_result, access_request, step_owned, step_started, part_ask, copy_ask, copy_ask_by, retag_ask, chosen, makes_step}
-use Rattle.source_sem.specs.Source.{Setting, Source, Frame, Doing, Ready, Entering, Copying, Waiting, Retagging, Leaving, ValueIn, JoinFits, MadeAt, ReplyFits, op_part, advance, in_block, goto_in, goto, block_place, has_step, to_retag, entering, first_insts, first_term, frame_of, new_frame, taken, taken_arg, result_step, resumed_by, resumed, return_to, returned_value, part_turn, term_turn, ready_turn, frames_turn, counted, counted_if, leave, leave_on, copy_on, joined, part_answer, term_answer, ready_answer, copying_part, copying_answer, entering_answer, doing_answer, frames_answer, source_begins, source_start, source_child, part_child, insts_child, frames_child, frames_ask, doing_ask, ready_ask, term_ask, copying_ask, copying_by, entry_ask, entering_ask, release_or, nowhere, part_type, insts_type, frames_type}
+use Rattle.ir_ast.specs.Numbers.{block_place}
+use Rattle.source_sem.specs.Source.{Setting, Source, Frame, Doing, Ready, Entering, Copying, Waiting, Retagging, Leaving, ValueIn, JoinFits, MadeAt, ReplyFits, op_part, advance, in_block, goto_in, goto, has_step, to_retag, entering, first_insts, first_term, frame_of, new_frame, taken, taken_arg, result_step, resumed_by, resumed, return_to, returned_value, part_turn, term_turn, ready_turn, frames_turn, counted, counted_if, leave, leave_on, copy_on, joined, part_answer, term_answer, ready_answer, copying_part, copying_answer, entering_answer, doing_answer, frames_answer, source_begins, source_start, source_child, part_child, insts_child, frames_child, frames_ask, doing_ask, ready_ask, term_ask, copying_ask, copying_by, entry_ask, entering_ask, release_or, nowhere, part_type, insts_type, frames_type}
 use Rattle.source_words.specs.Typing.{HasType, DestHolds, ParamTyped, InstTyped, GoalTyped, RetTyped, JumpTyped, BlockTyped, FunctionTyped, ProgramTyped}
 use Rattle.source_words.specs.Invariant.{HoldsFit, EnvFits, ArgsFit, ResultFits, AreBytes, HalfFits, Enters, DoingFits, FrameFits, Awaits, CallersFit, EndFits, FramesFit, SourceFits, PlainFits, PieceFits, RegistersFit, Runs, Told, JoinsTyped, WordLaw}
 use Rattle.source_words.proofs.Registers.{fits_plain, fits_at, fits_ptr, fits_arg, MayGive, env_put, env_dest, env_empty, env_bind, arg_fits, args_fit}
@@ -137,9 +138,9 @@ result_ptr b (Some Ptr) None = tt
 result_ptr b (Some (Int w)) attr = tt
 result_ptr b None attr = tt
 
-attr_ptr : (b : Bool) (ty : Ty) (a : Option Attr) → FitsAttr (Some ty) a → has_step b a ≡ true → ty ≡ Ptr
-attr_ptr b ty None fits is = absurd (true≢false (sym is))
-attr_ptr b ty (Some a) fits is = some_same fits
+attr_ptr : (version : ℕ) (b : Bool) (ty : Ty) (a : Option Attr) → FitsAttr version (Some ty) a → has_step b a ≡ true → ty ≡ Ptr
+attr_ptr version b ty None fits is = absurd (true≢false (sym is))
+attr_ptr version b ty (Some a) fits is = some_same fits.0
 
 module _ (x : Setting) (K : ℕ → ℕ → Type 0) (zero_fits : (k : ℕ) → K k 0) (small : (k c : ℕ) → K k c → c < 2 ^ 32) (bytes : Each (λ b. b < 256) x.input) (typed : ProgramTyped x.program) where
   abbrev P : Program
@@ -200,12 +201,12 @@ module _ (x : Setting) (K : ℕ → ℕ → Type 0) (zero_fits : (k : ℕ) → K
 
   -- new frames and blocks --------------------------------------------------------------
 
-  enters : (g : Function) (ps : List Param) → Each (ParamTyped g) ps → Each IsParam ps → Each (Enters g) (to_retag x.tracked ps)
+  enters : (g : Function) (ps : List Param) → Each (ParamTyped g) ps → Each (IsParam P.version) ps → Each (Enters g) (to_retag x.tracked ps)
   enters g [] params attrs = tt
   enters g (p ∷ ps) params attrs = by_step (has_step x.tracked p.attr) refl (enters g ps params.1 attrs.1)
     where
       by_step : (b : Bool) → has_step x.tracked p.attr ≡ b → Each (Enters g) (to_retag x.tracked ps) → Each (Enters g) (if b then p ∷ to_retag x.tracked ps else to_retag x.tracked ps)
-      by_step true is rest = (subst (λ z. HasType g p.reg.name z) (attr_ptr x.tracked p.ty p.attr attrs.0 is) params.0, rest)
+      by_step true is rest = (subst (λ z. HasType g p.reg.name z) (attr_ptr P.version x.tracked p.ty p.attr attrs.0 is) params.0, rest)
       by_step false is rest = rest
 
   entering_fits : (g : Function) (is : List Inst) (ps : List Param) → Each (Enters g) ps → DoingFits g is (entering ps)

@@ -19,7 +19,9 @@ use Rattle.ir_rules.specs.Occurrences.{Holds, or_none, op_gives}
 use Rattle.ir_rules.specs.Occurrences.Holds.{value, handle}
 use Rattle.source_sem.specs.Env.{Env, value_in, operand, args_of, bits, word_bits}
 use Rattle.source_sem.specs.Parts.{Part, Step, Access, Gives, Fails, Steps, Retags, Copies, Calls, Joins, Makes, Accesses, Prints, Hosts, Spawns, Loads, Stores, Modifies, Compares, Frees, worked_part, make_by, retag_part, copy_by, call_part, chosen, truth, makes_step, nth_value}
-use Rattle.source_sem.specs.Source.{Setting, ValueFits, op_part, attr_named, function_place}
+use Rattle.ir_ast.specs.Attributes.{attr_of_call}
+use Rattle.ir_ast.specs.Numbers.{function_place}
+use Rattle.source_sem.specs.Source.{Setting, ValueFits, op_part}
 use Rattle.source_words.specs.Typing.{ArgTyped, OpTyped}
 use Rattle.source_words.specs.Invariant.{EnvFits, ArgsFit, JoinsTyped}
 use Rattle.source_words.proofs.Words.{WorkedFits, worked_fits, wrapped, cast_fits}
@@ -128,7 +130,7 @@ module _ (x : Setting) (K : ℕ → ℕ → Type 0) (zero_fits : (k : ℕ) → K
     op_fits k depth env (op.Print w v) all typed = tt
     op_fits k depth env (op.Call ty name args) all typed =
         let callee = typed.1 in
-        call_given (nat_lt depth 1024) (function_place x.program.functions name.name) (args_of env args) ty (attr_named x.program.functions name.name)
+        call_given (nat_lt depth 1024) (function_place x.program.functions name.name) (args_of env args) ty (attr_of_call x.program.functions name.name)
         (callee.0, (callee.1.0, args_fit x.program K zero_fits g env callee.0.params args all typed.0 callee.1.1), callee.2)
     op_fits k depth env (op.Host ty name args) all typed = ((ty, refl, typed.1), nth_fits env args 0 all typed.0, nth_fits env args 1 all typed.0)
     op_fits k depth env (op.Spawn name args) all typed = let callee = typed.1 in ((name.name, refl, refl), (callee.0, (callee.1.0, args_fit x.program K zero_fits g env callee.0.params args all typed.0 callee.1.1)))

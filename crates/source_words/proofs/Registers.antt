@@ -18,7 +18,8 @@ use Rattle.ir_rules.specs.Occurrences.{Holds, function_events}
 use Rattle.ir_rules.specs.Occurrences.Holds.{value, handle}
 use Rattle.ir_rules.specs.Rules.{held, param_types, arg_types}
 use Rattle.source_sem.specs.Env.{Env, blank, plain_arg, value_in, word_bits, prov_at, arg_at, operand, arg_of, args_of, bind, put_some}
-use Rattle.source_sem.specs.Source.{ValueFits, function_place}
+use Rattle.ir_ast.specs.Numbers.{function_place}
+use Rattle.source_sem.specs.Source.{ValueFits}
 use Rattle.ir_ast.specs.declared.program.Program.{Program}
 use Rattle.source_words.specs.Typing.{DestHolds, OperandTyped, ArgTyped, ParamTyped}
 use Rattle.source_words.specs.Invariant.{HoldsFit, EnvFits, ArgsFit}

@@ -27,7 +27,8 @@ use Rattle.ir_rules.specs.Occurrences.Holds.{value, handle}
 use Rattle.ir_rules.specs.Rules.{IsAccepted, held}
 use Rattle.runs.specs.Parts.{Answers}
 use Rattle.source_sem.specs.Env.{Env, blank, value_in}
-use Rattle.source_sem.specs.Source.{Setting, Source, Frame, Doing, Ready, Entering, Copying, Waiting, Retagging, Leaving, ValueFits, frames_type, function_place, source_start, source_child, source_ask, source_turn, source_answer, source_fits}
+use Rattle.ir_ast.specs.Numbers.{function_place}
+use Rattle.source_sem.specs.Source.{Setting, Source, Frame, Doing, Ready, Entering, Copying, Waiting, Retagging, Leaving, ValueFits, frames_type, source_start, source_child, source_ask, source_turn, source_answer, source_fits}
 use Rattle.source_sem.specs.Parts.{number_in}
 use Rattle.source_words.specs.Typing.{HasType, DestHolds, InstTyped, JumpTyped}
 

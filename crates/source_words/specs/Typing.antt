@@ -22,7 +22,7 @@ use Rattle.ir_rules.specs.Occurrences.{Holds, op_gives, function_events}
 use Rattle.ir_rules.specs.Occurrences.Holds.{value, handle}
 use Rattle.ir_rules.specs.Rules.{held, param_types, arg_types, ret_type}
 use Rattle.source_sem.specs.Env.{bits, word_bits}
-use Rattle.source_sem.specs.Source.{function_place, block_place}
+use Rattle.ir_ast.specs.Numbers.{function_place, block_place}
 
 -- the type of a register is that of its first definition
 abbrev pub HasType : Function → List ℕ → Ty → Type 0
@@ -85,7 +85,7 @@ pub record BlockTyped (p : Program) (g : Function) (b : Block) : Type 0 where
 
 pub record FunctionTyped (p : Program) (g : Function) : Type 0 where
   pub params : Each (ParamTyped g) g.params
-  pub attributes : Each IsParam g.params
+  pub attributes : Each (IsParam p.version) g.params
   pub blocks : Each (BlockTyped p g) g.blocks
 
 abbrev pub ProgramTyped : Program → Type 0

@@ -1,6 +1,7 @@
 -- The list taken by functions and stretches is the list taken by sentences.
 use Rattle.std.proofs.Common.{ℕ, List, [], ◌∷◌, length, Option, Some, None}
 use Rattle.ir_ast.specs.Tokens.{Each}
+use Rattle.ir_ast.specs.Shapes.{IsVersion}
 use Rattle.target_code.specs.declared.line.Line.{Line}
 use Rattle.target_code.specs.declared.line.TargetFunction.{TargetFunction}
 use Rattle.target_code.specs.declared.line.Target.{Target}
@@ -37,8 +38,8 @@ pushes_once n f w = record {
   blocks = each_map (BlockFits f.slots (length f.blocks) n) NoPush (λ ls b. b.no_push) f.blocks w.blocks;
 }
 
-pub fits_formed : (t : Target) → Each (FunctionFits (length t.functions)) t.functions → IsWellFormed t
-fits_formed t h =
+pub fits_formed : (t : Target) → IsVersion t.version → Each (FunctionFits (length t.functions)) t.functions → IsWellFormed t
+fits_formed t version h =
     let n : ℕ = length t.functions in
     record {
       checked = each_map (FunctionFits n) (λ f. Each (EachTwo IsChecked None) (stretches f)) (λ f w. two_stretch IsChecked n f (λ a b r. r.checked) w) t.functions h;
@@ -47,6 +48,7 @@ fits_formed t h =
       blocks = each_map (FunctionFits n) HasBlocks (has_blocks n) t.functions h;
       pushes = each_map (FunctionFits n) PushesOnce (pushes_once n) t.functions h;
       numbers = each_map (FunctionFits n) (λ f. Each (Each (NamesKnown f.slots (length f.blocks) n)) (stretches f)) (λ f w. each_stretch n (Each (NamesKnown f.slots (length f.blocks) n)) f (λ ls t. t.names) w) t.functions h;
+      version = version;
     }
 
 -- ---- from sentences to functions

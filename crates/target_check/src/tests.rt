@@ -15,7 +15,10 @@ fn target(alloc: Global, entry: Vec<Line>, blocks: Vec<ListOf<Line>>) -> Result<
         entry: ListOf::from_vec(entry),
         blocks: ListOf::from_vec(blocks),
     })?;
-    Ok(Target { functions })
+    Ok(Target {
+        version: 1,
+        functions,
+    })
 }
 
 fn one_block(alloc: Global, block: Vec<Line>) -> Result<Target, NoMemory> {

@@ -2,6 +2,7 @@
 ghost use Rattle.std.specs.Prelude.{◌≡◌, ◌↔◌, ◌<◌, IsTrue, length, slice_get, drop};
 ghost use Rattle.std.specs.Option.{option_map_or};
 ghost use Rattle.ir_ast.specs.Tokens.{Each};
+ghost use Rattle.ir_ast.specs.Shapes.{IsVersion};
 ghost use Rattle.target_code.specs.Formed as formed;
 ghost use Rattle.target_code.specs.Formed.{Begins, NoPush, NamesKnown, IsWellFormed};
 ghost use Rattle.target_check.specs.Stretches.{StretchFits, BlockFits, EntryFits, FunctionFits};
@@ -119,13 +120,19 @@ fn functions_fit(functions: &[TargetFunction]) -> bool
     true
 }
 
+fn is_version(version: u8) -> bool
+    ensures { IsTrue result ↔ IsVersion version }
+{
+    1 <= version && version <= 2
+}
+
 /// Is target code well formed? It is where each access stands directly behind its check and each check
 /// directly before an access that wants it; each pointer that a constant, `gep`, `load` or `select`
 /// gives is directly followed by its shadow; each function has a block, and each block begins with
 /// `turn`; entry lines begin with `pushframe`, which stands nowhere else; `popframe` and `return`
-/// stand only together; and all slots, blocks and functions that are named exist.
+/// stand only together; all slots, blocks and functions that are named exist; and its version is 1 or 2.
 pub fn well_formed(target: &Target) -> bool
     ensures { IsTrue result ↔ IsWellFormed target.now }
 {
-    functions_fit(target.functions.as_slice())
+    is_version(target.version) && functions_fit(target.functions.as_slice())
 }

@@ -3,6 +3,7 @@ use Rattle.std.specs.Prelude.{◌≡◌, ℕ, ◌<◌, Bool, true, false, List, 
 use Rattle.std.specs.Option.{option_and_then, option_map_or}
 use Rattle.ir_ast.specs.Tokens.{Each}
 use Rattle.ir_ast.specs.Words.{ty_bytes, width_bytes}
+use Rattle.ir_ast.specs.Shapes.{IsVersion}
 use Rattle.ir_ast.specs.declared.types.Ty.TheVariants.{Ptr}
 use Rattle.target_code.specs.declared.line.Operand.{Operand}
 use Rattle.target_code.specs.declared.line.Operand.TheVariants as operand
@@ -215,3 +216,4 @@ pub record IsWellFormed (t : Target) : Type 0 where
   pub blocks : Each HasBlocks t.functions
   pub pushes : Each PushesOnce t.functions
   pub numbers : NumbersExist t
+  pub version : IsVersion t.version

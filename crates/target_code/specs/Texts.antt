@@ -98,4 +98,4 @@ functions_text number [] = []
 functions_text number (f ∷ fs) = function_text number f ++ functions_text (suc number) fs
 
 abbrev pub target_text : Target → List ℕ
-target_text t = codes "target 1\n" ++ functions_text 0 t.functions
+target_text t = codes "target " ++ decimal t.version ++ codes "\n" ++ functions_text 0 t.functions

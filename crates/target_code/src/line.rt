@@ -264,8 +264,10 @@ pub struct TargetFunction {
     pub blocks: ListOf<ListOf<Line>>,
 }
 
-/// Target code. Functions and blocks have the numbers of their places, from 0 on.
+/// Target code, with the version of its program. Functions and blocks have the numbers of their
+/// places, from 0 on.
 #[derive(Drop)]
 pub struct Target {
+    pub version: u8,
     pub functions: ListOf<TargetFunction>,
 }

@@ -641,7 +641,9 @@ fn put_functions(text: &mut Vec<u8>, functions: &[TargetFunction]) -> Result<(),
 pub fn text(alloc: Global, target: &Target) -> Result<Vec<u8>, NoMemory>
     ensures { IfOk result (λ text. text.items ≡ target_text target.now) }
 {
-    let mut text = Vec::from_slice(alloc, b"target 1\n")?;
+    let mut text = Vec::from_slice(alloc, b"target ")?;
+    put_number(&mut text, u64::from(target.version))?;
+    put_text(&mut text, "\n")?;
     put_functions(&mut text, target.functions.as_slice())?;
     Ok(text)
 }

@@ -12,7 +12,7 @@ loop-i-preserved c =
     let i = c.loop-i.i in
     let byte = c.get-byte.result.0 in
     let bytes : List ℕ = map (λ (pair : ℕ × Option Frag). pair.0) c.args.piece.now in
-    let read : slice_get bytes i ≡ Some byte = first_at c.args.piece.now i byte c.get-byte.result.1 c.get-byte.ensures in
+    let read : slice_get bytes i ≡ Some byte = first_at c.args.piece.now i byte c.get-byte.result.1 c.get-byte.ensures.value in
     let same : length bytes ≡ length c.args.piece.now = length-map c.args.piece.now (λ (pair : ℕ × Option Frag). pair.0) in
     let within : at + length bytes ≤ length before.bytes = omega (arith, same, c.requires.within) in (
       c.set_byte.ensures

@@ -1,5 +1,5 @@
 use Rattle.std.proofs.Common.{arith}
-use Rattle.instrument.specs.Translation.{blocks_end}
+use Rattle.ir_ast.specs.Numbers.{blocks_end}
 use Rattle.instrument.proofs.Ends.{block_room}
 use Rattle.instrument.proofs.functions.blocks_code.Goals as goal
 

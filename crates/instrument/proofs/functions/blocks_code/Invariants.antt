@@ -1,6 +1,7 @@
 use Rattle.std.proofs.Common.{◌≡◌, ◌++◌, drop}
 use Rattle.ir_ast.specs.Tokens.{Each}
-use Rattle.instrument.specs.Translation.{blocks_lines, blocks_end}
+use Rattle.ir_ast.specs.Numbers.{blocks_end}
+use Rattle.instrument.specs.Translation.{blocks_lines}
 use Rattle.instrument.specs.Names.{BlockNumbered}
 use Rattle.instrument.proofs.functions.blocks_code.Given as goal
 

@@ -1,5 +1,5 @@
 use Rattle.std.proofs.Common.{◌≡◌, drop}
-use Rattle.instrument.specs.Translation.{blocks_end}
+use Rattle.ir_ast.specs.Numbers.{blocks_end}
 use Rattle.instrument.proofs.functions.end_of.Given as goal
 
 abbrev pub invariant-loop-block : goal.invariant-loop-block

@@ -1,7 +1,7 @@
 use Rattle.std.proofs.Common.{◌≡◌, ◌<◌, ◌^◌, List, length, get_or, sym, ap, subst, arith}
 use Rattle.ir_ast.specs.declared.program.Block.{Block}
 use Rattle.ir_ast.specs.declared.program.Function.{Function}
-use Rattle.instrument.specs.Translation.{blocks_end}
+use Rattle.ir_ast.specs.Numbers.{blocks_end}
 use Rattle.instrument.specs.Names.{program_end}
 use Rattle.instrument.proofs.Ends.{function_room}
 use Rattle.instrument.proofs.functions.translate.Goals as goal

@@ -1,5 +1,5 @@
 use Rattle.std.proofs.Common.{◌≡◌, ◌+◌, drop}
-use Rattle.instrument.specs.Translation.{place, host_names}
+use Rattle.ir_ast.specs.Numbers.{place, host_names}
 use Rattle.instrument.proofs.scope.host_place.Given as goal
 
 abbrev pub invariant-loop-at : goal.invariant-loop-at

@@ -6,7 +6,7 @@ use Rattle.ir_reader.proofs.blocks.insts.Given as goal
 
 abbrev pub invariant-loop-alloc : goal.invariant-loop-alloc
 invariant-loop-alloc l = record {
-  so_far : with_front l.insts (insts_at (counts l.behind) (lexes l.text l.rest)) ≡ insts_at (counts l.fn.before) (lexes l.text l.tokens);
+  so_far : with_front l.insts (insts_at l.version (counts l.behind) (lexes l.text l.rest)) ≡ insts_at l.version (counts l.fn.before) (lexes l.text l.tokens);
   counted : counts l.behind ≡ after_insts (counts l.fn.before) l.insts;
 }
 

@@ -18,26 +18,26 @@ pub returns-in_err-next-clause-read : goal.returns-in_err-next-clause-read
 unfolding more_blocks_at
 returns-in_err-next-clause-read c =
     let p = err_from_is_err_and c.from_residual.result c.from_residual.ensures.1 in
-    rw (p.1, p.2) (breaks_as (λ _. IsBlock) spell_block AfterGoal block_at block_phrase after_block (begins_if is_any_word) block_begins AfterBlocks (λ rest e. e.0) blocks_follow (counts c.loop-alloc.behind)
-    c.args.text.now c.in_err-next.field-0.0 c.loop-alloc.found (lexes c.args.text.now c.loop-alloc.rest.now) (with_front c.args.front (more_blocks_at (counts c.args.before) (lexes c.args.text.now c.args.tokens.now)))
+    rw (p.1, p.2) (breaks_as (λ _. IsBlock c.args.version) spell_block AfterGoal (block_at c.args.version) (block_phrase c.args.version) after_block (begins_if is_any_word) (block_begins c.args.version) AfterBlocks (λ rest e. e.0) (blocks_follow c.args.version) (counts c.loop-alloc.behind)
+    c.args.text.now c.in_err-next.field-0.0 c.loop-alloc.found (lexes c.args.text.now c.loop-alloc.rest.now) (with_front c.args.front (more_blocks_at c.args.version (counts c.args.before) (lexes c.args.text.now c.args.tokens.now)))
     (sym c.begins_any_word.ensures ∙ c.loop-alloc-test.true) c.in_err-next.ensures.read c.loop-alloc.invariant.so_far)
 
 pub loop-alloc-smaller : goal.loop-alloc-smaller
-loop-alloc-smaller c = falls (λ _. IsBlock) spell_block AfterGoal block_at block_phrase after_block (begins_if is_any_word) block_begins AfterBlocks (λ rest e. e.0) blocks_follow (counts c.loop-alloc.behind)
+loop-alloc-smaller c = falls (λ _. IsBlock c.args.version) spell_block AfterGoal (block_at c.args.version) (block_phrase c.args.version) after_block (begins_if is_any_word) (block_begins c.args.version) AfterBlocks (λ rest e. e.0) (blocks_follow c.args.version) (counts c.loop-alloc.behind)
     c.args.text.now c.loop-alloc.rest.now c.in_ok-next.next c.in_ok-next.after.now c.in_ok-next.ensures.read
 
 pub loop-alloc-preserved : goal.loop-alloc-preserved
 unfolding more_blocks_at
 loop-alloc-preserved c =
-    let total = with_front c.args.front (more_blocks_at (counts c.args.before) (lexes c.args.text.now c.args.tokens.now)) in
+    let total = with_front c.args.front (more_blocks_at c.args.version (counts c.args.before) (lexes c.args.text.now c.args.tokens.now)) in
     let behind : counts c.in_ok-next.last ≡ after_block (counts c.loop-alloc.behind) c.in_ok-next.next = c.in_ok-next.ensures.behind in
-    let more = goes_on (λ _. IsBlock) spell_block AfterGoal block_at block_phrase after_block (begins_if is_any_word) block_begins AfterBlocks (λ rest e. e.0) blocks_follow (counts c.loop-alloc.behind)
+    let more = goes_on (λ _. IsBlock c.args.version) spell_block AfterGoal (block_at c.args.version) (block_phrase c.args.version) after_block (begins_if is_any_word) (block_begins c.args.version) AfterBlocks (λ rest e. e.0) (blocks_follow c.args.version) (counts c.loop-alloc.behind)
     c.loop-alloc.found (lexes c.args.text.now c.loop-alloc.rest.now) c.in_ok-next.next (lexes c.args.text.now c.in_ok-next.after.now) total
     (sym c.begins_any_word.ensures ∙ c.loop-alloc-test.true) c.in_ok-next.ensures.read c.loop-alloc.invariant.so_far in
     let count : c.in_ok-next.last.instructions ≡ c.loop-alloc.behind.instructions + block_instructions c.in_ok-next.next = ap (λ (z : ℕ × ℕ). z.0) behind in
     record {
-      so_far = subst (λ (z : List Block). with_front z (more_blocks_at (counts c.in_ok-next.last) (lexes c.args.text.now c.in_ok-next.after.now)) ≡ total) (sym c.in_ok-push.ensures.ok)
-          (subst (λ (z : ℕ × ℕ). with_front (c.loop-alloc.found ++ c.in_ok-next.next ∷ []) (more_blocks_at z (lexes c.args.text.now c.in_ok-next.after.now)) ≡ total) (sym behind) more);
+      so_far = subst (λ (z : List Block). with_front z (more_blocks_at c.args.version (counts c.in_ok-next.last) (lexes c.args.text.now c.in_ok-next.after.now)) ≡ total) (sym c.in_ok-push.ensures.ok)
+          (subst (λ (z : ℕ × ℕ). with_front (c.loop-alloc.found ++ c.in_ok-next.next ∷ []) (more_blocks_at c.args.version z (lexes c.args.text.now c.in_ok-next.after.now)) ≡ total) (sym behind) more);
       counted =
           let sum : sum_by block_instructions c.push.new.self ≡ sum_by block_instructions c.loop-alloc.found + block_instructions c.in_ok-next.next =
           ap (sum_by block_instructions) c.in_ok-push.ensures.ok ∙ sum_one block_instructions c.loop-alloc.found c.in_ok-next.next in
@@ -50,8 +50,8 @@ loop-alloc-preserved c =
 
 pub returns-clause-read : goal.returns-clause-read
 unfolding more_blocks_at
-returns-clause-read c = is_done (λ _. IsBlock) spell_block AfterGoal block_at block_phrase after_block (begins_if is_any_word) block_begins AfterBlocks (λ rest e. e.0) blocks_follow (counts c.loop-alloc.behind)
-    c.loop-alloc.found (lexes c.args.text.now c.loop-alloc.rest.now) (with_front c.args.front (more_blocks_at (counts c.args.before) (lexes c.args.text.now c.args.tokens.now)))
+returns-clause-read c = is_done (λ _. IsBlock c.args.version) spell_block AfterGoal (block_at c.args.version) (block_phrase c.args.version) after_block (begins_if is_any_word) (block_begins c.args.version) AfterBlocks (λ rest e. e.0) (blocks_follow c.args.version) (counts c.loop-alloc.behind)
+    c.loop-alloc.found (lexes c.args.text.now c.loop-alloc.rest.now) (with_front c.args.front (more_blocks_at c.args.version (counts c.args.before) (lexes c.args.text.now c.args.tokens.now)))
     (sym c.begins_any_word.ensures ∙ c.loop-alloc-test.false) c.loop-alloc.invariant.so_far
 
 pub returns-clause-behind : goal.returns-clause-behind

@@ -8,7 +8,7 @@ use Rattle.ir_reader.proofs.blocks.more_blocks.Given as goal
 
 abbrev pub invariant-loop-alloc : goal.invariant-loop-alloc
 invariant-loop-alloc l = record {
-  so_far : with_front l.found (more_blocks_at (counts l.behind) (lexes l.text l.rest)) ≡ with_front l.fn.front (more_blocks_at (counts l.fn.before) (lexes l.text l.tokens));
+  so_far : with_front l.found (more_blocks_at l.version (counts l.behind) (lexes l.text l.rest)) ≡ with_front l.fn.front (more_blocks_at l.version (counts l.fn.before) (lexes l.text l.tokens));
   counted : l.behind.instructions + sum_by block_instructions l.fn.front ≡ l.fn.before.instructions + sum_by block_instructions l.found;
 }
 

@@ -4,8 +4,8 @@ use Rattle.history.specs.Pieces.{fragments_of}
 use Rattle.history.proofs.Indexed.{pair_at, length_pairs}
 use Rattle.history.proofs.piece.Piece.get.Goals as goal
 
-pub returns : goal.returns
-returns c =
+pub returns-clause-value : goal.returns-clause-value
+returns-clause-value c =
     let p = c.self.inside in
     let at = c.args.at in
     let pairs = length_pairs p.bytes.items (fragments_of p.runs.items) (sym c.self.invariant.long) in

@@ -1,5 +1,5 @@
 use Rattle.std.proofs.Common.{◌≡◌, ◌++◌, drop}
-use Rattle.instrument.specs.Translation.{labels}
+use Rattle.ir_ast.specs.Numbers.{labels}
 use Rattle.instrument.specs.Sets.{names_in}
 use Rattle.instrument.proofs.scope.Blocks.new.Given as goal
 

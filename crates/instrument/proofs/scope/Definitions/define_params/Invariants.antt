@@ -1,6 +1,6 @@
 use Rattle.std.proofs.Common.{take}
 use Rattle.std.specs.List.{flat_map}
-use Rattle.instrument.specs.Translation.{param_definitions}
+use Rattle.ir_ast.specs.Attributes.{param_definitions}
 use Rattle.instrument.specs.Sets.{Defines}
 use Rattle.instrument.proofs.scope.Definitions.define_params.Given as goal
 

@@ -1,5 +1,5 @@
 use Rattle.std.proofs.Common.{◌≡◌, ◌++◌, drop}
-use Rattle.instrument.specs.Translation.{function_names}
+use Rattle.ir_ast.specs.Numbers.{function_names}
 use Rattle.instrument.specs.Sets.{names_in}
 use Rattle.instrument.proofs.scope.Functions.new.Given as goal
 

@@ -1,5 +1,5 @@
 use Rattle.std.proofs.Common.{◌≡◌, ◌++◌, take}
-use Rattle.history.proofs.merge.append_copies.Given as goal
+use Rattle.history.proofs.merge.push_copies.Given as goal
 
 abbrev pub invariant-loop-entry : goal.invariant-loop-entry
 invariant-loop-entry l = l.into.items ≡ l.initial.into.items ++ take l.entry-index l.entries
