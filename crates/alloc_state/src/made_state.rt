@@ -12,7 +12,7 @@ ghost use Rattle.alloc_state.specs.ShortReplies.{reply_of};
 ghost use Rattle.alloc_state.specs.MadeValues.{object_of, judged_of, new_made, copied_reply};
 
 use crate::copies::{piece_of, put_bytes, put_frags};
-use crate::numbers::{modified_by, width_of};
+use crate::numbers::width_of;
 use crate::short_reply::{ShortPlain, ShortReply};
 use bsan_ids::{AllocNo, NoMemory, Prov, Span, Stamp, Tag};
 use byte_mem::ByteMem;
@@ -23,6 +23,7 @@ use perm_table::{Guard, Kind, RetagKind, Violation};
 use shadow_mem::ShadowMem;
 use std::alloc::Global;
 use std::marker::Model;
+use word_ops::modify;
 
 /// A made allocation, with the room that it has for further runs of fragments and for a node.
 ///
@@ -269,7 +270,7 @@ impl MadeState {
             Ok(old) => old,
             Err(trap) => return ShortReply::trapped(trap),
         };
-        if let Err(trap) = self.write(at, ty, modified_by(op, width, old, value), None) {
+        if let Err(trap) = self.write(at, ty, modify(op, width, old, value), None) {
             return ShortReply::trapped(trap);
         }
         let span = Span {

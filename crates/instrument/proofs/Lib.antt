@@ -7,3 +7,4 @@ pub mod Exist
 pub mod Whole
 pub mod Once
 pub mod Accepted
+pub mod Answered

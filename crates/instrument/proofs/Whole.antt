@@ -1,6 +1,7 @@
 -- The translation of a program whose names are all known is well formed.
 use Rattle.std.proofs.Common.{◌≡◌, ℕ, suc, ◌+◌, ◌<◌, false, List, [], ◌∷◌, length, Option, Some, None, refl, sym, ap, subst}
 use Rattle.ir_ast.specs.Tokens.{Each}
+use Rattle.ir_ast.specs.Shapes.{IsVersion}
 use Rattle.ir_ast.specs.declared.hosts.HostEntry.{HostEntry}
 use Rattle.ir_ast.specs.declared.program.Block.{Block}
 use Rattle.ir_ast.specs.declared.program.Function.{Function}
@@ -91,8 +92,8 @@ neighbours : (k : ℕ) (P : Option Line → Option Line → Type 0) → ((a b : 
 neighbours k P g cs h =
     each_map (CodeFits k) (λ c. Each (EachTwo P None) (stretches c)) (λ c w. each_map (EachTwo Fit None) (EachTwo P None) (two_map Fit P g None) (stretches c) w.two) cs h
 
-pub formed : (hosts : List HostEntry) (p : Program) → AllKnown hosts p → IsWellFormed (translation hosts p)
-formed hosts p known =
+pub formed : (hosts : List HostEntry) (p : Program) → IsVersion p.version → AllKnown hosts p → IsWellFormed (translation hosts p)
+formed hosts p version known =
     let k : ℕ = length p.functions in
     let cs : List TargetFunction = functions_code p.functions hosts 0 p.functions in
     let fit : Each (CodeFits k) cs = codes_fit p.functions hosts 0 p.functions known in
@@ -105,4 +106,5 @@ formed hosts p known =
       pushes = each_map (CodeFits k) PushesOnce (λ c w. w.pushes) cs fit;
       numbers = subst (λ (z : ℕ). Each (λ c. Each (Each (NamesKnown c.slots (length c.blocks) z)) (stretches c)) cs) size
           (each_map (CodeFits k) (λ c. Each (Each (NamesKnown c.slots (length c.blocks) k)) (stretches c)) (λ c w. w.names) cs fit);
+      version = version;
     }

@@ -1,4 +1,4 @@
-use Rattle.std.proofs.Common.{◌≡◌, List, length, subst}
+use Rattle.std.proofs.Common.{◌≡◌, List, length, sym, subst, ◌∙◌}
 use Rattle.std.specs.Prelude.{◌↔◌, IsTrue}
 use Rattle.ir_ast.specs.Tokens.{Each}
 use Rattle.ir_ast.specs.Shapes.{IsVersion}
@@ -16,4 +16,6 @@ returns-then-is_version c =
     (λ h. fits_formed c.args.target.now version (test.0 h), λ w. test.1 (formed_fits c.args.target.now w))
 
 pub returns-else-is_version : goal.returns-else-is_version
-returns-else-is_version c = ?
+returns-else-is_version c =
+    let never : IsTrue c.is_version.result → ⊥ = λ h. (let e = sym c.if-is_version.false ∙ h in cc) in
+    (λ h. absurd (never h), λ w. c.is_version.ensures.1 w.version)
