@@ -305,9 +305,16 @@ stand_blocks n r (b ∷ bs) le le' h =
 stand_header : (k : ℕ) (f : Function) → k < most_functions → length f.params ≤ most_registers → IsWritableFunction f → StandsLine (header_line k f)
 stand_header k f lt le h =
     let result : Stand (plain close_round ∷ plain arrow ∷ result_tokens f.result ++ plain open_brace ∷ []) =
-    (fine_mark, (fine_mark, ((a_result f.result.ty, refl), each_join CanStand (attr_tokens f.result.attr) (plain open_brace ∷ []) (stand_attr f.result.attr h.result) (fine_mark, tt)))) in
-    (((refl, refl), fine_count k most_functions lt), ((h.name, refl), (fine_mark,
-    each_join CanStand (params_tokens 0 f.params) (plain close_round ∷ plain arrow ∷ result_tokens f.result ++ plain open_brace ∷ []) (stand_params 0 f.params (omega arith) h.params) result)))
+    (fine_mark, (fine_mark, ((a_result f.result.ty, refl), each_join CanStand (attr_tokens f.result.attr) (plain open_brace ∷ []) (stand_attr f.result.attr h.result) (fine_mark, tt)))) in (
+      ((refl, refl), fine_count k most_functions lt),
+      (
+        (h.name, refl),
+        (
+          fine_mark,
+          each_join CanStand (params_tokens 0 f.params) (plain close_round ∷ plain arrow ∷ result_tokens f.result ++ plain open_brace ∷ []) (stand_params 0 f.params (omega arith) h.params) result,
+        ),
+      ),
+    )
 
 stand_function : (k n : ℕ) (f : Function) → k < most_functions → n + function_instructions f ≤ most_instructions → function_registers f ≤ most_registers → IsWritableFunction f → Each StandsLine (function_lines k n f)
 stand_function k n f lt le le' h =

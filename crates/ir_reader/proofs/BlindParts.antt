@@ -327,7 +327,7 @@ blind_join : (typed : Bool) → Blind op_without (join_at typed)
 unfolding join_at
 blind_join typed = blind_mapped (each_of (each_of same no_place) named_without) op_without join_of (both (placed_result_at typed) (λ _. register_at)) (blind_both (each_of same no_place) named_without (placed_result_at typed) (λ _. register_at) (blind_placed_result typed) (λ _. blind_local) (λ _ _. refl)) (λ _. refl)
 
-blind_tail : (version : ℕ) → (typed : Bool) (k : Keyword) → Blind op_without (tail_at version typed k)
+blind_tail : (version : ℕ) (typed : Bool) (k : Keyword) → Blind op_without (tail_at version typed k)
 blind_tail version typed key.Const = blind_const
 blind_tail version typed key.Null = blind_given op_without op.Null refl
 blind_tail version typed (key.Make place) = blind_make place
@@ -363,7 +363,7 @@ blind_dest n r = blind_before (each_of named_without no_place) (one (want_define
     (blind_limited (each_of named_without no_place) (either (counted n most_instructions) (counted r most_registers)) (λ (l : Lex). with_place l.at (local_at l.form l.at))
     (λ l. ap (λ (x : Result Named Cause). with_place 0 x) (local_blind l.form l.at) ∙ placed_blind named_without (local_at l.form l.at) l.at))
 
-blind_plain : (version : ℕ) → (n : ℕ) → Blind (each_of op_without no_place) (plain_at version n)
+blind_plain : (version : ℕ) (n : ℕ) → Blind (each_of op_without no_place) (plain_at version n)
 unfolding plain_at
 blind_plain version n = blind_mapped (each_of (each_of same no_place) op_without) (each_of op_without no_place) op_placed (both (one (want_plain n)) (λ k. tail_at version false k.0))
     (blind_both (each_of same no_place) op_without (one (want_plain n)) (λ k. tail_at version false k.0)
@@ -374,7 +374,7 @@ blind_plain version n = blind_mapped (each_of (each_of same no_place) op_without
 abbrev at_place : ℕ → Got Op → Got (Op × ℕ)
 at_place at r = r >>= λ x. Ok ((x.0, at), x.1)
 
-blind_op_for : (version : ℕ) → (n : ℕ) (d : Option (Named × ℕ)) (ts : List Lex) → op_for version n (option_map (each_of named_without no_place) d) (unplaced_all ts) ≡ got_without (each_of op_without no_place) (op_for version n d ts)
+blind_op_for : (version : ℕ) (n : ℕ) (d : Option (Named × ℕ)) (ts : List Lex) → op_for version n (option_map (each_of named_without no_place) d) (unplaced_all ts) ≡ got_without (each_of op_without no_place) (op_for version n d ts)
 blind_op_for version n None ts = blind_plain version n ts
 blind_op_for version n (Some x) ts = ap (λ (r : Got Op). at_place 0 r) (blind_defined version ts) ∙ by_got (defined_at version ts)
   where
@@ -389,7 +389,7 @@ inst_blind x = by_dest x.0 x.1
     by_dest None o = refl
     by_dest (Some y) o = refl
 
-blind_inst : (version : ℕ) → (n r : ℕ) → Blind inst_without (inst_at version n r)
+blind_inst : (version : ℕ) (n r : ℕ) → Blind inst_without (inst_at version n r)
 unfolding inst_at
 blind_inst version n r = blind_mapped (each_of (option_map (each_of named_without no_place)) (each_of op_without no_place)) inst_without inst_of (both (maybe (begins_if is_local) (dest_at n r)) (op_for version n))
     (blind_both_by (option_map (each_of named_without no_place)) (each_of op_without no_place) (maybe (begins_if is_local) (dest_at n r)) (op_for version n)
@@ -510,7 +510,7 @@ sum_same : {A : Type 0} (f : A → A) (n : A → ℕ) → ((a : A) → n (f a) �
 sum_same f n h [] = refl
 sum_same f n h (x ∷ xs) = sum_by-cons n (f x) (map f xs) ∙ ap (λ (z : ℕ). z + sum_by n (map f xs)) (h x) ∙ ap (λ (z : ℕ). n x + z) (sum_same f n h xs) ∙ sym (sum_by-cons n x xs)
 
-blind_insts : (version : ℕ) → (n : ℕ × ℕ) → Blind (map inst_without) (insts_at version n)
+blind_insts : (version : ℕ) (n : ℕ × ℕ) → Blind (map inst_without) (insts_at version n)
 unfolding insts_at
 blind_insts version n = blind_many inst_without (begins_if is_inst) (λ (m : ℕ × ℕ). inst_at version m.0 m.1) after_inst (λ _. refl) (λ m. blind_inst version m.0 m.1) (λ m i. ap (λ (z : ℕ). (suc m.0, m.1 + z)) (defines_same i)) n
 
@@ -521,11 +521,11 @@ blind_head r = blind_before (map param_without) (block_params_at r) Colon (blind
 abbrev body_at : (version : ℕ) → ℕ × ℕ → ℕ → Reader (List Inst × Term)
 body_at version n count = both (insts_at version (n.0, n.1 + count)) (λ insts. term_at (n.0 + length insts))
 
-blind_body : (version : ℕ) → (n : ℕ × ℕ) (count : ℕ) → Blind (each_of (map inst_without) term_without) (body_at version n count)
+blind_body : (version : ℕ) (n : ℕ × ℕ) (count : ℕ) → Blind (each_of (map inst_without) term_without) (body_at version n count)
 blind_body version n count = blind_both (map inst_without) term_without (insts_at version (n.0, n.1 + count)) (λ insts. term_at (n.0 + length insts)) (blind_insts version (n.0, n.1 + count)) (λ insts. blind_term (n.0 + length insts))
     (λ insts ts. ap (λ (z : ℕ). term_at (n.0 + z) ts) (length-map insts inst_without))
 
-blind_block : (version : ℕ) → (n : ℕ × ℕ) → Blind block_without (block_at version n)
+blind_block : (version : ℕ) (n : ℕ × ℕ) → Blind block_without (block_at version n)
 unfolding block_at
 blind_block version n = blind_mapped (each_of named_without (each_of (map param_without) (each_of (map inst_without) term_without))) block_without block_of (both (one want_label) (λ _. both (head_at n.1) (λ params. body_at version n (length params))))
     (blind_both named_without (each_of (map param_without) (each_of (map inst_without) term_without)) (one want_label) (λ _. both (head_at n.1) (λ params. body_at version n (length params))) blind_label
@@ -541,11 +541,11 @@ block_defines b = ap (λ (z : ℕ). z + sum_by definitions (map inst_without b.i
 after_block_same : (n : ℕ × ℕ) (b : Block) → after_block n (block_without b) ≡ after_block n b
 after_block_same n b = ap (λ (z : ℕ). (n.0 + z, n.1 + block_registers (block_without b))) (block_count b) ∙ ap (λ (z : ℕ). (n.0 + block_instructions b, n.1 + z)) (block_defines b)
 
-blind_more_blocks : (version : ℕ) → (n : ℕ × ℕ) → Blind (map block_without) (more_blocks_at version n)
+blind_more_blocks : (version : ℕ) (n : ℕ × ℕ) → Blind (map block_without) (more_blocks_at version n)
 unfolding more_blocks_at
 blind_more_blocks version n = blind_many block_without (begins_if is_any_word) (block_at version) after_block (λ _. refl) (blind_block version) after_block_same n
 
-blind_blocks : (version : ℕ) → (n : ℕ × ℕ) → Blind (map block_without) (blocks_at version n)
+blind_blocks : (version : ℕ) (n : ℕ × ℕ) → Blind (map block_without) (blocks_at version n)
 unfolding blocks_at
 blind_blocks version n = blind_mapped (each_of block_without (map block_without)) (map block_without) cons_of (both (block_at version n) (λ b. more_blocks_at version (after_block n b)))
     (blind_both block_without (map block_without) (block_at version n) (λ b. more_blocks_at version (after_block n b)) (blind_block version n) (λ b. blind_more_blocks version (after_block n b)) (λ b ts. ap (λ (z : ℕ × ℕ). more_blocks_at version z ts) (after_block_same n b))) (λ _. refl)
@@ -564,17 +564,17 @@ blind_arrow_result : (version : ℕ) → Blind same (arrow_result_at version)
 unfolding arrow_result_at
 blind_arrow_result version = blind_behind same (mapped first_of (both (result_ty_at version) (λ _. mark_at OpenBrace))) Arrow (blind_before same (result_ty_at version) OpenBrace (blind_result_ty version))
 
-blind_closed_blocks : (version : ℕ) → (n : ℕ × ℕ) → Blind (map block_without) (closed_blocks_at version n)
+blind_closed_blocks : (version : ℕ) (n : ℕ × ℕ) → Blind (map block_without) (closed_blocks_at version n)
 unfolding closed_blocks_at
 blind_closed_blocks version n = blind_before (map block_without) (blocks_at version n) CloseBrace (blind_blocks version n)
 
 abbrev rest_at : (version : ℕ) → ℕ × ℕ → ℕ → Reader (ResultTy × List Block)
 rest_at version n count = both (arrow_result_at version) (λ _. closed_blocks_at version (n.1, count))
 
-blind_rest : (version : ℕ) → (n : ℕ × ℕ) (count : ℕ) → Blind (each_of same (map block_without)) (rest_at version n count)
+blind_rest : (version : ℕ) (n : ℕ × ℕ) (count : ℕ) → Blind (each_of same (map block_without)) (rest_at version n count)
 blind_rest version n count = blind_both same (map block_without) (arrow_result_at version) (λ _. closed_blocks_at version (n.1, count)) (blind_arrow_result version) (λ _. blind_closed_blocks version (n.1, count)) (λ _ _. refl)
 
-blind_function : (version : ℕ) → (n : ℕ × ℕ) → Blind function_without (function_at version n)
+blind_function : (version : ℕ) (n : ℕ × ℕ) → Blind function_without (function_at version n)
 unfolding function_at
 blind_function version n = blind_mapped (each_of same (each_of named_without (each_of (map param_without) (each_of same (map block_without))))) function_without function_of
     (both (func_at n.0) (λ _. both (one want_global) (λ _. both (function_params_at version) (λ params. rest_at version n (length params)))))
@@ -586,7 +586,7 @@ blind_function version n = blind_mapped (each_of same (each_of named_without (ea
 after_function_same : (n : ℕ × ℕ) (f : Function) → after_function n (function_without f) ≡ after_function n f
 after_function_same n f = ap (λ (z : ℕ). (suc n.0, n.1 + z)) (sum_same block_without block_instructions block_count f.blocks)
 
-blind_more_functions : (version : ℕ) → (n : ℕ × ℕ) → Blind (map function_without) (more_functions_at version n)
+blind_more_functions : (version : ℕ) (n : ℕ × ℕ) → Blind (map function_without) (more_functions_at version n)
 unfolding more_functions_at
 blind_more_functions version n = blind_many function_without (begins_if (is_word (codes "func"))) (function_at version) after_function (λ _. refl) (blind_function version) after_function_same n
 

@@ -221,7 +221,7 @@ params_phrase attrs n = mapped_phrase (ok_both (ok_param attrs) (λ _. Each (ok_
     (first_phrase (ok_param attrs) (λ _. Each (ok_param attrs)) (param_tokens n) (λ _. next_params (suc n)) NoComma (param_at attrs n) (λ _. more_params_at attrs (suc n)) (param_phrase attrs n) (λ _. more_params_phrase attrs (suc n)))
     cons_of (SomeParams attrs) (params_tokens n) (λ x k. (k, refl)) (params_back attrs)
 
-params_begin : (version : ℕ) → (n : ℕ) (ps : List Param) → SomeParams (Some version) ps → Begins (SomeParams (Some version)) (params_tokens n) (begins_if is_any_word) ps
+params_begin : (version : ℕ) (n : ℕ) (ps : List Param) → SomeParams (Some version) ps → Begins (SomeParams (Some version)) (params_tokens n) (begins_if is_any_word) ps
 params_begin version n [] k = absurd k
 params_begin version n (p ∷ ps) k = record { first = type_token p.ty; others = (attr_tokens p.attr ++ param_register n p ∷ []) ++ next_params (suc n) ps; parts = refl; passes = λ l fits. rw fits.0 refl }
 
@@ -289,18 +289,18 @@ stands_word (op.Call result function args) h = refl
 stands_word (op.Join result ty_at handle) h = refl
 stands_word _ h = absurd h
 
-pub inst_begins : (version : ℕ) → (n : ℕ × ℕ) (i : Inst) → IsInst version i → Begins (IsInst version) (spell_inst_at n) (begins_if is_inst) i
+pub inst_begins : (version : ℕ) (n : ℕ × ℕ) (i : Inst) → IsInst version i → Begins (IsInst version) (spell_inst_at n) (begins_if is_inst) i
 inst_begins version n i k = by_dest i.dest i.at i.op k
   where
     by_dest : (d : Option Named) (at : ℕ) (o : Op) → IsInst version (record { dest = d; at = at; op = o }) → Begins (IsInst version) (spell_inst_at n) (begins_if is_inst) (record { dest = d; at = at; op = o })
     by_dest None at o k = record { first = asked_with (word (op_word o)) (at ∷ []) (counted n.0 most_instructions); others = op_tokens o; parts = refl; passes = λ l fits. ap is_inst fits.0 ∙ stands_word o k.0 }
     by_dest (Some r) at o k = record { first = asked_with (local r.name) (r.at ∷ at ∷ []) (either (counted n.0 most_instructions) (counted n.1 most_registers)); others = plain equals ∷ defined_tokens o; parts = refl; passes = λ l fits. ap is_inst fits.0 }
 
-each_inst : (version : ℕ) → (n : ℕ × ℕ) (is : List Inst) → ok_from (λ _. IsInst version) after_inst n is → Each (IsInst version) is
+each_inst : (version : ℕ) (n : ℕ × ℕ) (is : List Inst) → ok_from (λ _. IsInst version) after_inst n is → Each (IsInst version) is
 each_inst version n [] k = tt
 each_inst version n (i ∷ is) k = (k.0, each_inst version (after_inst n i) is k.1)
 
-insts_each : (version : ℕ) → (n : ℕ × ℕ) (is : List Inst) → Each (IsInst version) is → ok_from (λ _. IsInst version) after_inst n is
+insts_each : (version : ℕ) (n : ℕ × ℕ) (is : List Inst) → Each (IsInst version) is → ok_from (λ _. IsInst version) after_inst n is
 insts_each version n [] k = tt
 insts_each version n (i ∷ is) k = (k.0, insts_each version (after_inst n i) is k.1)
 
@@ -311,7 +311,7 @@ insts_same n (i ∷ is) = ap (λ (z : List Asked). spell_inst_at n i ++ z) (inst
 abbrev pub NoInst : List Lex → Type 0
 NoInst = Ends (begins_if is_inst)
 
-pub insts_phrase : (version : ℕ) → (n : ℕ × ℕ) → Phrase (Each (IsInst version)) (λ is. line_tokens (inst_lines n.0 n.1 is)) NoInst (insts_at version n)
+pub insts_phrase : (version : ℕ) (n : ℕ × ℕ) → Phrase (Each (IsInst version)) (λ is. line_tokens (inst_lines n.0 n.1 is)) NoInst (insts_at version n)
 unfolding insts_at
 insts_phrase version n = rewritten (ok_from (λ _. IsInst version) after_inst n) (spell_from spell_inst_at after_inst n) NoInst (many_from (begins_if is_inst) (λ (m : ℕ × ℕ). inst_at version m.0 m.1) after_inst n) (Each (IsInst version)) (λ is. line_tokens (inst_lines n.0 n.1 is))
     (λ is k. (each_inst version n is k, insts_same n is)) (insts_each version n)
@@ -350,14 +350,14 @@ body_same n b = flat_map-append (λ (line : Line). line.tokens) (inst_lines n.0 
 block_ok : (version : ℕ) → (x : Named × (List Param × (List Inst × Term))) → ok_both Any (λ _. ok_both (Each IsBlockParam) (body_ok version (0, 0))) x → IsBlock version (block_of x)
 block_ok version x k = record { params = k.1.0; insts = k.1.1.0; term = k.1.1.1 }
 
-block_there : (version : ℕ) → (n : ℕ × ℕ) (x : Named × (List Param × (List Inst × Term))) → ok_both Any (λ _. ok_both (Each IsBlockParam) (body_ok version n)) x
+block_there : (version : ℕ) (n : ℕ × ℕ) (x : Named × (List Param × (List Inst × Term))) → ok_both Any (λ _. ok_both (Each IsBlockParam) (body_ok version n)) x
     → IsBlock version (block_of x) × (spell_block n (block_of x) ≡ spell_both (λ l. label l ∷ []) (λ _. spell_both (head_tokens n.1) (body_tokens n)) x)
 block_there version n x k = (block_ok version x k, ap (λ (z : List Asked). label x.0 ∷ (head_tokens n.1 x.1.0 ++ z)) (body_same n (block_of x)))
 
-block_back : (version : ℕ) → (n : ℕ × ℕ) (b : Block) → IsBlock version b → (x : Named × (List Param × (List Inst × Term))) × ok_both Any (λ _. ok_both (Each IsBlockParam) (body_ok version n)) x × (block_of x ≡ b)
+block_back : (version : ℕ) (n : ℕ × ℕ) (b : Block) → IsBlock version b → (x : Named × (List Param × (List Inst × Term))) × ok_both Any (λ _. ok_both (Each IsBlockParam) (body_ok version n)) x × (block_of x ≡ b)
 block_back version n b k = ((b.label, (b.params, (b.insts, b.term))), (tt, (k.params, (k.insts, k.term))), refl)
 
-pub block_phrase : (version : ℕ) → (n : ℕ × ℕ) → Phrase (IsBlock version) (spell_block n) AfterGoal (block_at version n)
+pub block_phrase : (version : ℕ) (n : ℕ × ℕ) → Phrase (IsBlock version) (spell_block n) AfterGoal (block_at version n)
 unfolding block_at
 block_phrase version n = mapped_phrase (ok_both Any (λ _. ok_both (Each IsBlockParam) (body_ok version n))) (spell_both (λ l. label l ∷ []) (λ _. spell_both (head_tokens n.1) (body_tokens n))) AfterGoal _
     (first_phrase Any (λ _. ok_both (Each IsBlockParam) (body_ok version n)) (λ l. label l ∷ []) (λ _. spell_both (head_tokens n.1) (body_tokens n)) AfterGoal (one want_label)
@@ -371,20 +371,20 @@ block_phrase version n = mapped_phrase (ok_both Any (λ _. ok_both (Each IsBlock
 abbrev pub AfterBlocks : List Lex → Type 0
 AfterBlocks rest = Ends (begins_if is_any_word) rest × AfterGoal rest
 
-pub block_begins : (version : ℕ) → (n : ℕ × ℕ) (b : Block) → IsBlock version b → Begins (IsBlock version) (spell_block n) (begins_if is_any_word) b
+pub block_begins : (version : ℕ) (n : ℕ × ℕ) (b : Block) → IsBlock version b → Begins (IsBlock version) (spell_block n) (begins_if is_any_word) b
 block_begins version n b k = record { first = label b.label; others = head_tokens n.1 b.params ++ line_tokens (inst_lines n.0 (n.1 + length b.params) b.insts ++ term_line (n.0 + length b.insts) b.term ∷ []); parts = refl; passes = λ l fits. ap is_any_word fits.0 }
 
-pub blocks_follow : (version : ℕ) → (n : ℕ × ℕ) (bs : List Block) (back rest : List Lex) → ok_from (λ _. IsBlock version) after_block n bs → Matches (spell_from spell_block after_block n bs) back → AfterBlocks rest → AfterGoal (back ++ rest)
+pub blocks_follow : (version : ℕ) (n : ℕ × ℕ) (bs : List Block) (back rest : List Lex) → ok_from (λ _. IsBlock version) after_block n bs → Matches (spell_from spell_block after_block n bs) back → AfterBlocks rest → AfterGoal (back ++ rest)
 blocks_follow version n [] [] rest k h e = e.1
 blocks_follow version n [] (l ∷ back) rest k h e = absurd h
 blocks_follow version n (b ∷ bs) [] rest k h e = absurd h
 blocks_follow version n (b ∷ bs) (l ∷ back) rest k h e = (tt, ap (is_mark OpenRound) h.0.0)
 
-each_block : (version : ℕ) → (n : ℕ × ℕ) (bs : List Block) → ok_from (λ _. IsBlock version) after_block n bs → Each (IsBlock version) bs
+each_block : (version : ℕ) (n : ℕ × ℕ) (bs : List Block) → ok_from (λ _. IsBlock version) after_block n bs → Each (IsBlock version) bs
 each_block version n [] k = tt
 each_block version n (b ∷ bs) k = (k.0, each_block version (after_block n b) bs k.1)
 
-blocks_each : (version : ℕ) → (n : ℕ × ℕ) (bs : List Block) → Each (IsBlock version) bs → ok_from (λ _. IsBlock version) after_block n bs
+blocks_each : (version : ℕ) (n : ℕ × ℕ) (bs : List Block) → Each (IsBlock version) bs → ok_from (λ _. IsBlock version) after_block n bs
 blocks_each version n [] k = tt
 blocks_each version n (b ∷ bs) k = (k.0, blocks_each version (after_block n b) bs k.1)
 
@@ -396,7 +396,7 @@ blocks_same n [] = refl
 blocks_same n (b ∷ bs) = flat_map-append (λ (line : Line). line.tokens) (block_lines n.0 n.1 b) (blocks_lines (n.0 + block_instructions b) (n.1 + block_registers b) bs)
     ∙ ap (λ (z : List Asked). spell_block n b ++ z) (blocks_same (after_block n b) bs)
 
-pub more_blocks_phrase : (version : ℕ) → (n : ℕ × ℕ) → Phrase (Each (IsBlock version)) (spell_blocks n) AfterBlocks (more_blocks_at version n)
+pub more_blocks_phrase : (version : ℕ) (n : ℕ × ℕ) → Phrase (Each (IsBlock version)) (spell_blocks n) AfterBlocks (more_blocks_at version n)
 unfolding more_blocks_at
 more_blocks_phrase version n = rewritten (ok_from (λ _. IsBlock version) after_block n) (spell_from spell_block after_block n) AfterBlocks (many_from (begins_if is_any_word) (block_at version) after_block n) (Each (IsBlock version)) (spell_blocks n)
     (λ bs k. (each_block version n bs k, blocks_same n bs)) (blocks_each version n)
@@ -405,11 +405,11 @@ more_blocks_phrase version n = rewritten (ok_from (λ _. IsBlock version) after_
 abbrev pub SomeBlocks : (version : ℕ) → List Block → Type 0
 SomeBlocks version bs = (0 < length bs) × Each (IsBlock version) bs
 
-some_blocks_back : (version : ℕ) → (bs : List Block) → SomeBlocks version bs → (x : Block × List Block) × ok_both (IsBlock version) (λ _. Each (IsBlock version)) x × (cons_of x ≡ bs)
+some_blocks_back : (version : ℕ) (bs : List Block) → SomeBlocks version bs → (x : Block × List Block) × ok_both (IsBlock version) (λ _. Each (IsBlock version)) x × (cons_of x ≡ bs)
 some_blocks_back version [] k = absurd (omega (arith, k.0))
 some_blocks_back version (b ∷ bs) k = ((b, bs), k.1, refl)
 
-some_blocks_there : (version : ℕ) → (n : ℕ × ℕ) (x : Block × List Block) → ok_both (IsBlock version) (λ _. Each (IsBlock version)) x → SomeBlocks version (cons_of x) × (spell_blocks n (cons_of x) ≡ spell_both (spell_block n) (λ b. spell_blocks (after_block n b)) x)
+some_blocks_there : (version : ℕ) (n : ℕ × ℕ) (x : Block × List Block) → ok_both (IsBlock version) (λ _. Each (IsBlock version)) x → SomeBlocks version (cons_of x) × (spell_blocks n (cons_of x) ≡ spell_both (spell_block n) (λ b. spell_blocks (after_block n b)) x)
 some_blocks_there version n x k = ((omega arith, k), flat_map-append (λ (line : Line). line.tokens) (block_lines n.0 n.1 x.0) (blocks_lines (n.0 + block_instructions x.0) (n.1 + block_registers x.0) x.1))
 
 more_blocks_follow : (n : ℕ × ℕ) (bs : List Block) (back rest : List Lex) → Matches (spell_blocks n bs) back → AfterBlocks rest → AfterGoal (back ++ rest)
@@ -418,7 +418,7 @@ more_blocks_follow n [] (l ∷ back) rest h e = absurd h
 more_blocks_follow n (b ∷ bs) [] rest h e = absurd h
 more_blocks_follow n (b ∷ bs) (l ∷ back) rest h e = (tt, ap (is_mark OpenRound) h.0.0)
 
-pub blocks_phrase : (version : ℕ) → (n : ℕ × ℕ) → Phrase (SomeBlocks version) (spell_blocks n) AfterBlocks (blocks_at version n)
+pub blocks_phrase : (version : ℕ) (n : ℕ × ℕ) → Phrase (SomeBlocks version) (spell_blocks n) AfterBlocks (blocks_at version n)
 unfolding blocks_at
 blocks_phrase version n = mapped_phrase (ok_both (IsBlock version) (λ _. Each (IsBlock version))) (spell_both (spell_block n) (λ b. spell_blocks (after_block n b))) AfterBlocks _
     (both_phrase (IsBlock version) (λ _. Each (IsBlock version)) (spell_block n) (λ b. spell_blocks (after_block n b)) AfterGoal AfterBlocks (block_at version n) (λ b. more_blocks_at version (after_block n b)) (block_phrase version n) (λ b. more_blocks_phrase version (after_block n b))
@@ -465,7 +465,7 @@ arrow_result_phrase version = after_mark Arrow (IsResult version) (λ r. result_
 abbrev pub closed_tokens : ℕ × ℕ → List Block → List Asked
 closed_tokens n bs = spell_blocks n bs ++ plain close_brace ∷ []
 
-pub closed_blocks_phrase : (version : ℕ) → (n : ℕ × ℕ) → Phrase (SomeBlocks version) (closed_tokens n) Any (closed_blocks_at version n)
+pub closed_blocks_phrase : (version : ℕ) (n : ℕ × ℕ) → Phrase (SomeBlocks version) (closed_tokens n) Any (closed_blocks_at version n)
 unfolding closed_blocks_at
 closed_blocks_phrase version n = before_mark CloseBrace (SomeBlocks version) (spell_blocks n) AfterBlocks (blocks_at version n) (blocks_phrase version n) (λ l rest e. (ap is_any_word e, (tt, ap (is_mark OpenRound) e)))
 
@@ -493,13 +493,13 @@ function_same n x =
     ∙ sym (append_assoc params (plain close_round ∷ []) (middle ++ closed_tokens (n.1, length f.params) f.blocks)) in
     ap (λ (z : List Asked). asked_with (word (codes "func")) [] (counted n.0 most_functions) ∷ function_name f.name ∷ plain open_round ∷ z) inside
 
-function_there : (version : ℕ) → (n : ℕ × ℕ) (x : Parts) → parts_ok version x → IsFunction version (function_of x) × (spell_function n (function_of x) ≡ parts_tokens n x)
+function_there : (version : ℕ) (n : ℕ × ℕ) (x : Parts) → parts_ok version x → IsFunction version (function_of x) × (spell_function n (function_of x) ≡ parts_tokens n x)
 function_there version n x k = (record { params = k.1.1.0; result = k.1.1.1.0; some_block = k.1.1.1.1.0; blocks = k.1.1.1.1.1 }, function_same n x)
 
-function_back : (version : ℕ) → (f : Function) → IsFunction version f → (x : Parts) × parts_ok version x × (function_of x ≡ f)
+function_back : (version : ℕ) (f : Function) → IsFunction version f → (x : Parts) × parts_ok version x × (function_of x ≡ f)
 function_back version f k = ((tt, (f.name, (f.params, (f.result, f.blocks)))), (tt, (tt, (k.params, (k.result, (k.some_block, k.blocks))))), refl)
 
-pub function_phrase : (version : ℕ) → (n : ℕ × ℕ) → Phrase (IsFunction version) (spell_function n) Any (function_at version n)
+pub function_phrase : (version : ℕ) (n : ℕ × ℕ) → Phrase (IsFunction version) (spell_function n) Any (function_at version n)
 unfolding function_at
 function_phrase version n = mapped_phrase (parts_ok version) (parts_tokens n) Any _
     (pair_phrase Any (λ _. ok_both Any (λ _. ok_both (Each (IsParam version)) (λ _. ok_both (IsResult version) (λ _. SomeBlocks version)))) (func_tokens n.0) (λ _. spell_both (λ f. function_name f ∷ []) (λ _. spell_both (round_params 0) (λ ps. spell_both arrow_tokens (λ _. closed_tokens (n.1, length ps)))))
@@ -516,14 +516,14 @@ function_phrase version n = mapped_phrase (parts_ok version) (parts_tokens n) An
 abbrev pub NoFunc : List Lex → Type 0
 NoFunc = Ends (begins_if (is_word (codes "func")))
 
-pub function_begins : (version : ℕ) → (n : ℕ × ℕ) (f : Function) → IsFunction version f → Begins (IsFunction version) (spell_function n) (begins_if (is_word (codes "func"))) f
+pub function_begins : (version : ℕ) (n : ℕ × ℕ) (f : Function) → IsFunction version f → Begins (IsFunction version) (spell_function n) (begins_if (is_word (codes "func"))) f
 function_begins version n f k = record { first = asked_with (word (codes "func")) [] (counted n.0 most_functions); others = _; parts = refl; passes = λ l fits. ap (is_word (codes "func")) fits.0 }
 
-each_function : (version : ℕ) → (n : ℕ × ℕ) (fs : List Function) → ok_from (λ _. IsFunction version) after_function n fs → Each (IsFunction version) fs
+each_function : (version : ℕ) (n : ℕ × ℕ) (fs : List Function) → ok_from (λ _. IsFunction version) after_function n fs → Each (IsFunction version) fs
 each_function version n [] k = tt
 each_function version n (f ∷ fs) k = (k.0, each_function version (after_function n f) fs k.1)
 
-functions_each : (version : ℕ) → (n : ℕ × ℕ) (fs : List Function) → Each (IsFunction version) fs → ok_from (λ _. IsFunction version) after_function n fs
+functions_each : (version : ℕ) (n : ℕ × ℕ) (fs : List Function) → Each (IsFunction version) fs → ok_from (λ _. IsFunction version) after_function n fs
 functions_each version n [] k = tt
 functions_each version n (f ∷ fs) k = (k.0, functions_each version (after_function n f) fs k.1)
 
@@ -535,7 +535,7 @@ functions_same n [] = refl
 functions_same n (f ∷ fs) = flat_map-append (λ (line : Line). line.tokens) (function_lines n.0 n.1 f) (functions_lines (suc n.0) (n.1 + sum_by block_instructions f.blocks) fs)
     ∙ ap (λ (z : List Asked). spell_function n f ++ z) (functions_same (after_function n f) fs)
 
-pub more_functions_phrase : (version : ℕ) → (n : ℕ × ℕ) → Phrase (Each (IsFunction version)) (spell_functions n) NoFunc (more_functions_at version n)
+pub more_functions_phrase : (version : ℕ) (n : ℕ × ℕ) → Phrase (Each (IsFunction version)) (spell_functions n) NoFunc (more_functions_at version n)
 unfolding more_functions_at
 more_functions_phrase version n = rewritten (ok_from (λ _. IsFunction version) after_function n) (spell_from spell_function after_function n) NoFunc (many_from (begins_if (is_word (codes "func"))) (function_at version) after_function n) (Each (IsFunction version)) (spell_functions n)
     (λ fs k. (each_function version n fs k, functions_same n fs)) (functions_each version n)
@@ -544,11 +544,11 @@ more_functions_phrase version n = rewritten (ok_from (λ _. IsFunction version) 
 abbrev pub SomeFunctions : (version : ℕ) → List Function → Type 0
 SomeFunctions version fs = (0 < length fs) × Each (IsFunction version) fs
 
-some_functions_back : (version : ℕ) → (fs : List Function) → SomeFunctions version fs → (x : Function × List Function) × ok_both (IsFunction version) (λ _. Each (IsFunction version)) x × (cons_of x ≡ fs)
+some_functions_back : (version : ℕ) (fs : List Function) → SomeFunctions version fs → (x : Function × List Function) × ok_both (IsFunction version) (λ _. Each (IsFunction version)) x × (cons_of x ≡ fs)
 some_functions_back version [] k = absurd (omega (arith, k.0))
 some_functions_back version (f ∷ fs) k = ((f, fs), k.1, refl)
 
-some_functions_there : (version : ℕ) → (x : Function × List Function) → ok_both (IsFunction version) (λ _. Each (IsFunction version)) x → SomeFunctions version (cons_of x) × (spell_functions (0, 0) (cons_of x) ≡ spell_both (spell_function (0, 0)) (λ f. spell_functions (after_function (0, 0) f)) x)
+some_functions_there : (version : ℕ) (x : Function × List Function) → ok_both (IsFunction version) (λ _. Each (IsFunction version)) x → SomeFunctions version (cons_of x) × (spell_functions (0, 0) (cons_of x) ≡ spell_both (spell_function (0, 0)) (λ f. spell_functions (after_function (0, 0) f)) x)
 some_functions_there version x k = ((omega arith, k), flat_map-append (λ (line : Line). line.tokens) (function_lines 0 0 x.0) (functions_lines 1 (0 + sum_by block_instructions x.0.blocks) x.1))
 
 pub functions_phrase : (version : ℕ) → Phrase (SomeFunctions version) (spell_functions (0, 0)) NoFunc (functions_at version)

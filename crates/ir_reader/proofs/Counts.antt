@@ -45,7 +45,7 @@ either_none : (x y : Option Limit) → either x y ≡ None → (x ≡ None) × (
 either_none None y e = (refl, e)
 either_none (Some limit) y e = absurd cc
 
-pub inst_below : (version : ℕ) → (n r : ℕ) (ts : List Lex) (i : Inst) (rest : List Lex) → inst_at version n r ts ≡ Ok (i, rest) → n < most_instructions
+pub inst_below : (version : ℕ) (n r : ℕ) (ts : List Lex) (i : Inst) (rest : List Lex) → inst_at version n r ts ≡ Ok (i, rest) → n < most_instructions
 inst_below version n r ts i rest e = let t = (inst_phrase version n r).sound ts i rest e in by_dest i.dest t.front t.spelled
   where
     by_dest : (d : Option Named) (front : List Lex) → Spelled (inst_tokens n r d i.at i.op) front → n < most_instructions
@@ -54,7 +54,7 @@ inst_below version n r ts i rest e = let t = (inst_phrase version n r).sound ts 
     by_dest (Some x) [] h = absurd h
     by_dest (Some x) (l ∷ front) h = counted_below n most_instructions (either_none (counted n most_instructions) (counted r most_registers) h.1).0
 
-pub register_below : (version : ℕ) → (n r : ℕ) (ts : List Lex) (i : Inst) (rest : List Lex) → inst_at version n r ts ≡ Ok (i, rest) → is_some i.dest ≡ true → r < most_registers
+pub register_below : (version : ℕ) (n r : ℕ) (ts : List Lex) (i : Inst) (rest : List Lex) → inst_at version n r ts ≡ Ok (i, rest) → is_some i.dest ≡ true → r < most_registers
 register_below version n r ts i rest e defines = let t = (inst_phrase version n r).sound ts i rest e in by_dest i.dest t.front t.spelled defines
   where
     by_dest : (d : Option Named) (front : List Lex) → Spelled (inst_tokens n r d i.at i.op) front → is_some d ≡ true → r < most_registers
@@ -98,7 +98,7 @@ round_within : (r : ℕ) (p : Param) (ps : List Param) (ls : List Lex) → Spell
 round_within r p ps [] h = absurd h
 round_within r p ps (l ∷ ls) h = let parts = spelled_parts (params_tokens r (p ∷ ps)) (plain close_round ∷ []) ls h.2 in params_within r p ps parts.0.0 parts.0.1
 
-pub function_params_within : (version : ℕ) → (ts : List Lex) (ps : List Param) (rest : List Lex) → function_params_at version ts ≡ Ok (ps, rest) → length ps ≤ most_registers
+pub function_params_within : (version : ℕ) (ts : List Lex) (ps : List Param) (rest : List Lex) → function_params_at version ts ≡ Ok (ps, rest) → length ps ≤ most_registers
 function_params_within version ts ps rest e = let t = (function_params_phrase version).sound ts ps rest e in by_params ps t.front t.spelled
   where
     by_params : (qs : List Param) (front : List Lex) → Spelled (round_params 0 qs) front → length qs ≤ most_registers

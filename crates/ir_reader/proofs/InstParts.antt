@@ -190,16 +190,16 @@ ok_plain_word x = IsPlain x.0
 abbrev plain_word_tokens : ℕ → Keyword × ℕ → List Asked
 plain_word_tokens instructions x = asked_with (word (key_word x.0)) (x.1 ∷ []) (counted instructions most_instructions) ∷ []
 
-alone_there : (version : ℕ) → (instructions : ℕ) (x : (Keyword × ℕ) × Op) → ok_both ok_plain_word (λ k. IsTail version false k.0) x
+alone_there : (version : ℕ) (instructions : ℕ) (x : (Keyword × ℕ) × Op) → ok_both ok_plain_word (λ k. IsTail version false k.0) x
     → IsAlone version (op_placed x) × (alone_tokens instructions (op_placed x) ≡ spell_both (plain_word_tokens instructions) (λ _. op_tokens) x)
 alone_there version instructions x k =
     let same = k.1.0 in
     ((stands x.1 (subst IsPlain (sym same) k.0), k.1.2), ap (λ (z : List ℕ). asked_with (word z) (x.0.1 ∷ []) (counted instructions most_instructions) ∷ op_tokens x.1) (op_word_is x.1 ∙ ap key_word same))
 
-alone_back : (version : ℕ) → (y : Op × ℕ) → IsAlone version y → (x : (Keyword × ℕ) × Op) × ok_both ok_plain_word (λ k. IsTail version false k.0) x × (op_placed x ≡ y)
+alone_back : (version : ℕ) (y : Op × ℕ) → IsAlone version y → (x : (Keyword × ℕ) × Op) × ok_both ok_plain_word (λ k. IsTail version false k.0) x × (op_placed x ≡ y)
 alone_back version y k = let h = standing y.0 k.0 in (((key_of y.0, y.1), y.0), (h.0, (refl, h.1, k.1)), refl)
 
-pub plain_phrase : (version : ℕ) → (instructions : ℕ) → Phrase (IsAlone version) (alone_tokens instructions) Any (plain_at version instructions)
+pub plain_phrase : (version : ℕ) (instructions : ℕ) → Phrase (IsAlone version) (alone_tokens instructions) Any (plain_at version instructions)
 unfolding plain_at
 plain_phrase version instructions = mapped_phrase (ok_both ok_plain_word (λ k. IsTail version false k.0)) (spell_both (plain_word_tokens instructions) (λ _. op_tokens)) Any _
     (pair_phrase ok_plain_word (λ k. IsTail version false k.0) (plain_word_tokens instructions) (λ _. op_tokens) (one (want_plain instructions)) (λ k. tail_at version false k.0)
@@ -215,10 +215,10 @@ abbrev tokens_for : ℕ → Option (Named × ℕ) → Op × ℕ → List Asked
 tokens_for instructions None x = alone_tokens instructions x
 tokens_for instructions (Some y) x = defined_tokens x.0
 
-for_back : (version : ℕ) → (y : Named × ℕ) (x : Op × ℕ) → ok_for version (Some y) x → (o : Op) × IsDefined version o × (placed_at y.1 o ≡ x)
+for_back : (version : ℕ) (y : Named × ℕ) (x : Op × ℕ) → ok_for version (Some y) x → (o : Op) × IsDefined version o × (placed_at y.1 o ≡ x)
 for_back version y x k = (x.0, k.0, ap (λ (z : ℕ). placed_at z x.0) (sym k.1))
 
-for_phrase : (version : ℕ) → (instructions : ℕ) (d : Option (Named × ℕ)) → Phrase (ok_for version d) (tokens_for instructions d) Any (op_for version instructions d)
+for_phrase : (version : ℕ) (instructions : ℕ) (d : Option (Named × ℕ)) → Phrase (ok_for version d) (tokens_for instructions d) Any (op_for version instructions d)
 for_phrase version instructions None = plain_phrase version instructions
 for_phrase version instructions (Some y) = mapped_phrase (IsDefined version) defined_tokens Any (defined_at version) (defined_phrase version) (placed_at y.1) (ok_for version (Some y)) (tokens_for instructions (Some y)) (λ o k. ((k, refl), refl)) (for_back version y)
 
@@ -234,13 +234,13 @@ no_local instructions None x (l ∷ back) rest h = (tt, rw h.0.0 refl)
 no_local instructions (Some y) x [] rest h = absurd h
 no_local instructions (Some y) x (l ∷ back) rest h = (tt, rw h.0.0 refl)
 
-inst_there : (version : ℕ) → (instructions registers : ℕ) (x : Option (Named × ℕ) × (Op × ℕ)) → ok_both ok_dest (ok_for version) x
+inst_there : (version : ℕ) (instructions registers : ℕ) (x : Option (Named × ℕ) × (Op × ℕ)) → ok_both ok_dest (ok_for version) x
     → IsInst version (inst_of x) × (inst_tokens instructions registers (inst_of x).dest (inst_of x).at (inst_of x).op ≡ spell_both (spell_maybe (dest_tokens instructions registers)) (tokens_for instructions) x)
 inst_there version instructions registers (None, y) k = (k.1, refl)
 inst_there version instructions registers (Some d, y) k =
     (k.1.0, ap (λ (z : ℕ). inst_tokens instructions registers (Some d.0) z y.0) k.1.1)
 
-inst_back : (version : ℕ) → (i : Inst) → IsInst version i → (x : Option (Named × ℕ) × (Op × ℕ)) × ok_both ok_dest (ok_for version) x × (inst_of x ≡ i)
+inst_back : (version : ℕ) (i : Inst) → IsInst version i → (x : Option (Named × ℕ) × (Op × ℕ)) × ok_both ok_dest (ok_for version) x × (inst_of x ≡ i)
 inst_back version i k = by_dest i.dest i.at i.op k
   where
     by_dest : (d : Option Named) (at : ℕ) (o : Op) → IsInst version (record { dest = d; at = at; op = o }) → (x : Option (Named × ℕ) × (Op × ℕ)) × ok_both ok_dest (ok_for version) x × (inst_of x ≡ record { dest = d; at = at; op = o })
@@ -258,7 +258,7 @@ local_begins instructions registers x k = record {
   passes = λ l fits. rw fits.0 refl;
 }
 
-pub inst_phrase : (version : ℕ) → (instructions registers : ℕ) → Phrase (IsInst version) (spell_inst instructions registers) Any (inst_at version instructions registers)
+pub inst_phrase : (version : ℕ) (instructions registers : ℕ) → Phrase (IsInst version) (spell_inst instructions registers) Any (inst_at version instructions registers)
 unfolding inst_at
 inst_phrase version instructions registers = mapped_phrase (ok_both ok_dest (ok_for version)) (spell_both (spell_maybe (dest_tokens instructions registers)) (tokens_for instructions)) Any _
     (both_phrase ok_dest (ok_for version) (spell_maybe (dest_tokens instructions registers)) (tokens_for instructions) NoLocal Any (maybe (begins_if is_local) (dest_at instructions registers)) (op_for version instructions)
@@ -273,7 +273,7 @@ by_op : (d : Named × ℕ) (r : Got Op)
 by_op d (Ok o) = refl
 by_op d (Err e) = refl
 
-pub inst_defining : (version : ℕ) → (instructions registers : ℕ) (ts : List Lex) → begins (begins_if is_local) ts ≡ true → inst_at version instructions registers ts ≡ (defining_at version) instructions registers ts
+pub inst_defining : (version : ℕ) (instructions registers : ℕ) (ts : List Lex) → begins (begins_if is_local) ts ≡ true → inst_at version instructions registers ts ≡ (defining_at version) instructions registers ts
 unfolding inst_at defining_at
 inst_defining version instructions registers [] e = absurd cc
 inst_defining version instructions registers (l ∷ ls) e = rw e (by_dest (dest_at instructions registers (l ∷ ls)))
@@ -284,7 +284,7 @@ inst_defining version instructions registers (l ∷ ls) e = rw e (by_dest (dest_
     by_dest (Ok x) = by_op x.0 (defined_at version x.1)
     by_dest (Err d) = refl
 
-pub inst_alone : (version : ℕ) → (instructions registers : ℕ) (ts : List Lex) → begins (begins_if is_local) ts ≡ false → inst_at version instructions registers ts ≡ (alone_at version) instructions ts
+pub inst_alone : (version : ℕ) (instructions registers : ℕ) (ts : List Lex) → begins (begins_if is_local) ts ≡ false → inst_at version instructions registers ts ≡ (alone_at version) instructions ts
 unfolding inst_at alone_at
 inst_alone version instructions registers [] e = by_plain (plain_at version instructions [])
   where

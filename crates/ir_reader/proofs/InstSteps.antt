@@ -42,28 +42,28 @@ one_after n is i = pairs (suc (n.0 + length is)) ((n.1 + sum_by definitions is) 
 
 -- ---- blocks
 
-pub blocks_is : (version : ℕ) → (n : ℕ × ℕ) (ts : List Lex) (b : Block) (rest : List Lex) → block_at version n ts ≡ Ok (b, rest) → blocks_at version n ts ≡ with_front (b ∷ []) (more_blocks_at version (after_block n b) rest)
+pub blocks_is : (version : ℕ) (n : ℕ × ℕ) (ts : List Lex) (b : Block) (rest : List Lex) → block_at version n ts ≡ Ok (b, rest) → blocks_at version n ts ≡ with_front (b ∷ []) (more_blocks_at version (after_block n b) rest)
 unfolding blocks_at
 blocks_is version n ts b rest e = rw e (by_more b (more_blocks_at version (after_block n b) rest))
 
-blocks_fails : (version : ℕ) → (n : ℕ × ℕ) (ts : List Lex) (d : Cause × List Lex) → block_at version n ts ≡ Err d → blocks_at version n ts ≡ Err d
+blocks_fails : (version : ℕ) (n : ℕ × ℕ) (ts : List Lex) (d : Cause × List Lex) → block_at version n ts ≡ Err d → blocks_at version n ts ≡ Err d
 unfolding blocks_at
 blocks_fails version n ts d e = rw e refl
 
-pub blocks_fail_as : (version : ℕ) → (n : ℕ × ℕ) (text : List ℕ) (s : Stop) (ts : List Lex) → Fails text s (block_at version n ts) → Fails text s (blocks_at version n ts)
+pub blocks_fail_as : (version : ℕ) (n : ℕ × ℕ) (text : List ℕ) (s : Stop) (ts : List Lex) → Fails text s (block_at version n ts) → Fails text s (blocks_at version n ts)
 blocks_fail_as version n text Memory ts h = tt
 blocks_fail_as version n text (At c rest) ts h = blocks_fails version n ts (c, lexes text rest.now) h
 
 -- ---- functions
 
-pub functions_is : (version : ℕ) → (ts : List Lex) (f : Function) (rest : List Lex) → function_at version (0, 0) ts ≡ Ok (f, rest) → functions_at version ts ≡ with_front (f ∷ []) (more_functions_at version (after_function (0, 0) f) rest)
+pub functions_is : (version : ℕ) (ts : List Lex) (f : Function) (rest : List Lex) → function_at version (0, 0) ts ≡ Ok (f, rest) → functions_at version ts ≡ with_front (f ∷ []) (more_functions_at version (after_function (0, 0) f) rest)
 unfolding functions_at
 functions_is version ts f rest e = rw e (by_more f (more_functions_at version (after_function (0, 0) f) rest))
 
-functions_fails : (version : ℕ) → (ts : List Lex) (d : Cause × List Lex) → function_at version (0, 0) ts ≡ Err d → functions_at version ts ≡ Err d
+functions_fails : (version : ℕ) (ts : List Lex) (d : Cause × List Lex) → function_at version (0, 0) ts ≡ Err d → functions_at version ts ≡ Err d
 unfolding functions_at
 functions_fails version ts d e = rw e refl
 
-pub functions_fail_as : (version : ℕ) → (text : List ℕ) (s : Stop) (ts : List Lex) → Fails text s (function_at version (0, 0) ts) → Fails text s (functions_at version ts)
+pub functions_fail_as : (version : ℕ) (text : List ℕ) (s : Stop) (ts : List Lex) → Fails text s (function_at version (0, 0) ts) → Fails text s (functions_at version ts)
 functions_fail_as version text Memory ts h = tt
 functions_fail_as version text (At c rest) ts h = functions_fails version ts (c, lexes text rest.now) h

@@ -148,141 +148,141 @@ OpTypedIf typed _ = Unit {0}
 abbrev pub IsTail : (version : ℕ) → Bool → Keyword → Op → Type 0
 IsTail version typed k o = (key_of o ≡ k) × OpTypedIf typed o × IsOp version o
 
-const_back : (version : ℕ) → (typed : Bool) (o : Op) → IsTail version typed key.Const o → (x : Width × ℕ) × (ok_both Any (λ _. Any)) x × (const_of x ≡ o)
+const_back : (version : ℕ) (typed : Bool) (o : Op) → IsTail version typed key.Const o → (x : Width × ℕ) × (ok_both Any (λ _. Any)) x × (const_of x ≡ o)
 const_back version typed (op.Const width value) k = ((width, value), (tt, tt), refl)
 const_back version typed _ k = let e = k.0 in absurd cc
 
-const_tail : (version : ℕ) → (typed : Bool) → Phrase (IsTail version typed key.Const) op_tokens Any const_at
+const_tail : (version : ℕ) (typed : Bool) → Phrase (IsTail version typed key.Const) op_tokens Any const_at
 unfolding const_at
 const_tail version typed = mapped_phrase (ok_both Any (λ _. Any)) (spell_both (λ width. width_token width ∷ []) (λ width n. amount n (modulus width) ∷ [])) Any _
     (pair_phrase Any (λ _. Any) (λ width. width_token width ∷ []) (λ width n. amount n (modulus width) ∷ []) word_at (λ width. one (want_amount (modulus width))) width_phrase (λ width. amount_phrase (modulus width)))
     const_of (IsTail version typed key.Const) op_tokens (λ x k. ((refl, tt, tt), refl)) (const_back version typed)
 
-null_only : (version : ℕ) → (typed : Bool) (o : Op) → IsTail version typed key.Null o → op.Null ≡ o
+null_only : (version : ℕ) (typed : Bool) (o : Op) → IsTail version typed key.Null o → op.Null ≡ o
 null_only version typed op.Null k = refl
 null_only version typed _ k = let e = k.0 in absurd cc
 
-null_tail : (version : ℕ) → (typed : Bool) → Phrase (IsTail version typed key.Null) op_tokens Any (given op.Null)
+null_tail : (version : ℕ) (typed : Bool) → Phrase (IsTail version typed key.Null) op_tokens Any (given op.Null)
 null_tail version typed = given_phrase (IsTail version typed key.Null) op_tokens Any op.Null (refl, tt, tt) refl (null_only version typed)
 
-make_back : (version : ℕ) → (typed : Bool) (place : Place) (o : Op) → IsTail version typed (key.Make place) o → (x : Val) × IsVal (Int W64) x × (op.Make place x ≡ o)
+make_back : (version : ℕ) (typed : Bool) (place : Place) (o : Op) → IsTail version typed (key.Make place) o → (x : Val) × IsVal (Int W64) x × (op.Make place x ≡ o)
 make_back version typed place (op.Make q size) k = let e : q ≡ place = (let f = k.0 in cc) in (size, k.2, ap (λ (z : Place). op.Make z size) (sym e))
 make_back version typed place _ k = let e = k.0 in absurd cc
 
-make_tail : (version : ℕ) → (typed : Bool) (place : Place) → Phrase (IsTail version typed (key.Make place)) op_tokens Any (make_at place)
+make_tail : (version : ℕ) (typed : Bool) (place : Place) → Phrase (IsTail version typed (key.Make place)) op_tokens Any (make_at place)
 unfolding make_at
 make_tail version typed place = mapped_phrase (IsVal (Int W64)) (spell_val (Int W64)) Any _ (val_phrase (Int W64)) (op.Make place) (IsTail version typed (key.Make place)) op_tokens (λ x k. ((refl, tt, k), refl)) (make_back version typed place)
 
-gep_back : (version : ℕ) → (typed : Bool) (o : Op) → IsTail version typed key.Gep o → (x : Named × Val) × (ok_both Any (λ _. IsVal (Int W64))) x × (gep_of x ≡ o)
+gep_back : (version : ℕ) (typed : Bool) (o : Op) → IsTail version typed key.Gep o → (x : Named × Val) × (ok_both Any (λ _. IsVal (Int W64))) x × (gep_of x ≡ o)
 gep_back version typed (op.Gep ptr add) k = ((ptr, add), (tt, k.2), refl)
 gep_back version typed _ k = let e = k.0 in absurd cc
 
-gep_tail : (version : ℕ) → (typed : Bool) → Phrase (IsTail version typed key.Gep) op_tokens Any gep_at
+gep_tail : (version : ℕ) (typed : Bool) → Phrase (IsTail version typed key.Gep) op_tokens Any gep_at
 unfolding gep_at
 gep_tail version typed = mapped_phrase (ok_both Any (λ _. IsVal (Int W64))) (spell_both spell_register (λ _ v. plain comma ∷ val_token (Int W64) v ∷ [])) Any _
     (pair_phrase Any (λ _. IsVal (Int W64)) spell_register (λ _ v. plain comma ∷ val_token (Int W64) v ∷ []) register_at (λ _. next_value_at (Int W64)) local_phrase (λ _. next_value_phrase (Int W64)))
     gep_of (IsTail version typed key.Gep) op_tokens (λ x k. ((refl, tt, k.1), refl)) (gep_back version typed)
 
-load_back : (version : ℕ) → (typed : Bool) (o : Op) → IsTail version typed key.Load o → (x : Ty × Named) × (ok_both Any (λ _. Any)) x × (load_of x ≡ o)
+load_back : (version : ℕ) (typed : Bool) (o : Op) → IsTail version typed key.Load o → (x : Ty × Named) × (ok_both Any (λ _. Any)) x × (load_of x ≡ o)
 load_back version typed (op.Load ty ptr) k = ((ty, ptr), (tt, tt), refl)
 load_back version typed _ k = let e = k.0 in absurd cc
 
-load_tail : (version : ℕ) → (typed : Bool) → Phrase (IsTail version typed key.Load) op_tokens Any load_at
+load_tail : (version : ℕ) (typed : Bool) → Phrase (IsTail version typed key.Load) op_tokens Any load_at
 unfolding load_at
 load_tail version typed = mapped_phrase (ok_both Any (λ _. Any)) (spell_both (λ ty. type_token ty ∷ []) (λ _ r. plain comma ∷ register r ∷ [])) Any _
     (pair_phrase Any (λ _. Any) (λ ty. type_token ty ∷ []) (λ _ r. plain comma ∷ register r ∷ []) type_at (λ _. next_register_at) type_phrase (λ _. next_register_phrase))
     load_of (IsTail version typed key.Load) op_tokens (λ x k. ((refl, tt, tt), refl)) (load_back version typed)
 
-store_back : (version : ℕ) → (typed : Bool) (o : Op) → IsTail version typed key.Store o → (x : Ty × (Val × Named)) × (ok_both Any (λ ty. ok_both (IsVal ty) (λ _. Any))) x × (store_of x ≡ o)
+store_back : (version : ℕ) (typed : Bool) (o : Op) → IsTail version typed key.Store o → (x : Ty × (Val × Named)) × (ok_both Any (λ ty. ok_both (IsVal ty) (λ _. Any))) x × (store_of x ≡ o)
 store_back version typed (op.Store ty val ptr) k = ((ty, (val, ptr)), (tt, (k.2, tt)), refl)
 store_back version typed _ k = let e = k.0 in absurd cc
 
-store_tail : (version : ℕ) → (typed : Bool) → Phrase (IsTail version typed key.Store) op_tokens Any store_at
+store_tail : (version : ℕ) (typed : Bool) → Phrase (IsTail version typed key.Store) op_tokens Any store_at
 unfolding store_at
 store_tail version typed = mapped_phrase (ok_both Any (λ ty. ok_both (IsVal ty) (λ _. Any))) (spell_both (λ ty. type_token ty ∷ []) (λ ty. spell_both (spell_val ty) (λ _ r. plain comma ∷ register r ∷ []))) Any _
     (pair_phrase Any (λ ty. ok_both (IsVal ty) (λ _. Any)) (λ ty. type_token ty ∷ []) (λ ty. spell_both (spell_val ty) (λ _ r. plain comma ∷ register r ∷ [])) type_at (λ ty. both (value_at ty) (λ _. next_register_at)) type_phrase
     (λ ty. pair_phrase (IsVal ty) (λ _. Any) (spell_val ty) (λ _ r. plain comma ∷ register r ∷ []) (value_at ty) (λ _. next_register_at) (val_phrase ty) (λ _. next_register_phrase)))
     store_of (IsTail version typed key.Store) op_tokens (λ x k. ((refl, tt, k.1.0), refl)) (store_back version typed)
 
-retag_back : (version : ℕ) → (typed : Bool) (o : Op) → IsTail version typed key.Retag o → (x : RetagKind × (Named × ℕ)) × (ok_both (HasKind version) (λ _. ok_both Any (λ _. Any))) x × (retag_of x ≡ o)
+retag_back : (version : ℕ) (typed : Bool) (o : Op) → IsTail version typed key.Retag o → (x : RetagKind × (Named × ℕ)) × (ok_both (HasKind version) (λ _. ok_both Any (λ _. Any))) x × (retag_of x ≡ o)
 retag_back version typed (op.Retag kind ptr size) k = ((kind, (ptr, size)), (k.2, (tt, tt)), refl)
 retag_back version typed _ k = let e = k.0 in absurd cc
 
-retag_tail : (version : ℕ) → (typed : Bool) → Phrase (IsTail version typed key.Retag) op_tokens Any (retag_at version)
+retag_tail : (version : ℕ) (typed : Bool) → Phrase (IsTail version typed key.Retag) op_tokens Any (retag_at version)
 unfolding retag_at
 retag_tail version typed = mapped_phrase (ok_both (HasKind version) (λ _. ok_both Any (λ _. Any))) (spell_both (λ kind. kind_token kind ∷ []) (λ _. spell_both spell_register (λ _ n. plain comma ∷ size_token n ∷ []))) Any _
     (pair_phrase (HasKind version) (λ _. ok_both Any (λ _. Any)) (λ kind. kind_token kind ∷ []) (λ _. spell_both spell_register (λ _ n. plain comma ∷ size_token n ∷ [])) (one (want_among (kinds version))) (λ _. both register_at (λ _. next_size_at)) (kind_phrase version)
     (λ _. pair_phrase Any (λ _. Any) spell_register (λ _ n. plain comma ∷ size_token n ∷ []) register_at (λ _. next_size_at) local_phrase (λ _. next_size_phrase)))
     retag_of (IsTail version typed key.Retag) op_tokens (λ x k. ((refl, tt, k.0), refl)) (retag_back version typed)
 
-binary_back : (version : ℕ) → (typed : Bool) (b : BinaryOp) (o : Op) → IsTail version typed (key.Binary b) o → (x : Width × (Val × Val)) × (ok_both Any (λ width. ok_two (Int width))) x × ((binary_of b) x ≡ o)
+binary_back : (version : ℕ) (typed : Bool) (b : BinaryOp) (o : Op) → IsTail version typed (key.Binary b) o → (x : Width × (Val × Val)) × (ok_both Any (λ width. ok_two (Int width))) x × ((binary_of b) x ≡ o)
 binary_back version typed b (op.Binary o width x y) k = let e : o ≡ b = (let f = k.0 in cc) in ((width, (x, y)), (tt, k.2), ap (λ (z : BinaryOp). op.Binary z width x y) (sym e))
 binary_back version typed b _ k = let e = k.0 in absurd cc
 
-binary_tail : (version : ℕ) → (typed : Bool) (b : BinaryOp) → Phrase (IsTail version typed (key.Binary b)) op_tokens Any (binary_at b)
+binary_tail : (version : ℕ) (typed : Bool) (b : BinaryOp) → Phrase (IsTail version typed (key.Binary b)) op_tokens Any (binary_at b)
 unfolding binary_at
 binary_tail version typed b = mapped_phrase (ok_both Any (λ width. ok_two (Int width))) (spell_both (λ width. width_token width ∷ []) (λ width. spell_two (Int width))) Any _
     (pair_phrase Any (λ width. ok_two (Int width)) (λ width. width_token width ∷ []) (λ width. spell_two (Int width)) word_at (λ width. two_at (Int width)) width_phrase (λ width. two_phrase (Int width)))
     (binary_of b) (IsTail version typed (key.Binary b)) op_tokens (λ x k. ((refl, tt, k.1), refl)) (binary_back version typed b)
 
-compare_back : (version : ℕ) → (typed : Bool) (o : Op) → IsTail version typed key.Compare o → (x : Cond × (Ty × (Val × Val))) × (ok_both Any (λ _. ok_both Any ok_two)) x × (compare_of x ≡ o)
+compare_back : (version : ℕ) (typed : Bool) (o : Op) → IsTail version typed key.Compare o → (x : Cond × (Ty × (Val × Val))) × (ok_both Any (λ _. ok_both Any ok_two)) x × (compare_of x ≡ o)
 compare_back version typed (op.Compare cond ty a b) k = ((cond, (ty, (a, b))), (tt, (tt, k.2)), refl)
 compare_back version typed _ k = let e = k.0 in absurd cc
 
-compare_tail : (version : ℕ) → (typed : Bool) → Phrase (IsTail version typed key.Compare) op_tokens Any compare_at
+compare_tail : (version : ℕ) (typed : Bool) → Phrase (IsTail version typed key.Compare) op_tokens Any compare_at
 unfolding compare_at
 compare_tail version typed = mapped_phrase (ok_both Any (λ _. ok_both Any ok_two)) (spell_both (λ cond. word_token false (cond_word cond) ∷ []) (λ _. spell_both (λ ty. type_token ty ∷ []) spell_two)) Any _
     (pair_phrase Any (λ _. ok_both Any ok_two) (λ cond. word_token false (cond_word cond) ∷ []) (λ _. spell_both (λ ty. type_token ty ∷ []) spell_two) (one (want_among conds)) (λ _. both type_at (λ ty. two_at ty)) cond_phrase
     (λ _. pair_phrase Any ok_two (λ ty. type_token ty ∷ []) spell_two type_at (λ ty. two_at ty) type_phrase two_phrase))
     compare_of (IsTail version typed key.Compare) op_tokens (λ x k. ((refl, tt, k.1.1), refl)) (compare_back version typed)
 
-select_back : (version : ℕ) → (typed : Bool) (o : Op) → IsTail version typed key.Select o → (x : Ty × (Val × (Val × Val))) × (ok_both Any (λ ty. ok_both (IsVal (Int W8)) (λ _. ok_two ty))) x × (select_of x ≡ o)
+select_back : (version : ℕ) (typed : Bool) (o : Op) → IsTail version typed key.Select o → (x : Ty × (Val × (Val × Val))) × (ok_both Any (λ ty. ok_both (IsVal (Int W8)) (λ _. ok_two ty))) x × (select_of x ≡ o)
 select_back version typed (op.Select ty cond a b) k = ((ty, (cond, (a, b))), (tt, (k.2.0, (k.2.1, k.2.2))), refl)
 select_back version typed _ k = let e = k.0 in absurd cc
 
-select_tail : (version : ℕ) → (typed : Bool) → Phrase (IsTail version typed key.Select) op_tokens Any select_at
+select_tail : (version : ℕ) (typed : Bool) → Phrase (IsTail version typed key.Select) op_tokens Any select_at
 unfolding select_at
 select_tail version typed = mapped_phrase (ok_both Any (λ ty. ok_both (IsVal (Int W8)) (λ _. ok_two ty))) (spell_both (λ ty. type_token ty ∷ []) (λ ty. spell_both (spell_val (Int W8)) (λ _. (λ x. plain comma ∷ spell_two ty x)))) Any _
     (pair_phrase Any (λ ty. ok_both (IsVal (Int W8)) (λ _. ok_two ty)) (λ ty. type_token ty ∷ []) (λ ty. spell_both (spell_val (Int W8)) (λ _. (λ x. plain comma ∷ spell_two ty x))) type_at (λ ty. both (value_at (Int W8)) (λ _. next_two_at ty)) type_phrase
     (λ ty. pair_phrase (IsVal (Int W8)) (λ _. ok_two ty) (spell_val (Int W8)) (λ _. (λ x. plain comma ∷ spell_two ty x)) (value_at (Int W8)) (λ _. next_two_at ty) (val_phrase (Int W8)) (λ _. next_two_phrase ty)))
     select_of (IsTail version typed key.Select) op_tokens (λ x k. ((refl, tt, (k.1.0, k.1.1.0, k.1.1.1)), refl)) (select_back version typed)
 
-cast_back : (version : ℕ) → (typed : Bool) (c : CastOp) (o : Op) → IsTail version typed (key.Cast c) o → (x : Width × (Val × (Width × ℕ))) × (ok_both Any (λ from. ok_both (IsVal (Int from)) (λ _. Any))) x × ((cast_of c) x ≡ o)
+cast_back : (version : ℕ) (typed : Bool) (c : CastOp) (o : Op) → IsTail version typed (key.Cast c) o → (x : Width × (Val × (Width × ℕ))) × (ok_both Any (λ from. ok_both (IsVal (Int from)) (λ _. Any))) x × ((cast_of c) x ≡ o)
 cast_back version typed c (op.Cast o from to val at) k = let e : o ≡ c = (let f = k.0 in cc) in ((from, (val, (to, at))), (tt, (k.2, tt)), ap (λ (z : CastOp). op.Cast z from to val at) (sym e))
 cast_back version typed c _ k = let e = k.0 in absurd cc
 
-cast_tail : (version : ℕ) → (typed : Bool) (c : CastOp) → Phrase (IsTail version typed (key.Cast c)) op_tokens Any (cast_at c)
+cast_tail : (version : ℕ) (typed : Bool) (c : CastOp) → Phrase (IsTail version typed (key.Cast c)) op_tokens Any (cast_at c)
 unfolding cast_at
 cast_tail version typed c = mapped_phrase (ok_both Any (λ from. ok_both (IsVal (Int from)) (λ _. Any))) (spell_both (λ width. width_token width ∷ []) (λ from. spell_both (spell_val (Int from)) (λ _ x. plain (word (codes "to")) ∷ placed (word (width_word x.0)) x.1 ∷ []))) Any _
     (pair_phrase Any (λ from. ok_both (IsVal (Int from)) (λ _. Any)) (λ width. width_token width ∷ []) (λ from. spell_both (spell_val (Int from)) (λ _ x. plain (word (codes "to")) ∷ placed (word (width_word x.0)) x.1 ∷ [])) word_at (λ from. both (value_at (Int from)) (λ _. to_at)) width_phrase
     (λ from. pair_phrase (IsVal (Int from)) (λ _. Any) (spell_val (Int from)) (λ _ x. plain (word (codes "to")) ∷ placed (word (width_word x.0)) x.1 ∷ []) (value_at (Int from)) (λ _. to_at) (val_phrase (Int from)) (λ _. to_phrase)))
     (cast_of c) (IsTail version typed (key.Cast c)) op_tokens (λ x k. ((refl, tt, k.1.0), refl)) (cast_back version typed c)
 
-ptr_to_int_back : (version : ℕ) → (typed : Bool) (o : Op) → IsTail version typed key.PtrToInt o → (x : Named) × Any x × (op.PtrToInt x ≡ o)
+ptr_to_int_back : (version : ℕ) (typed : Bool) (o : Op) → IsTail version typed key.PtrToInt o → (x : Named) × Any x × (op.PtrToInt x ≡ o)
 ptr_to_int_back version typed (op.PtrToInt ptr) k = (ptr, tt, refl)
 ptr_to_int_back version typed _ k = let e = k.0 in absurd cc
 
-ptr_to_int_tail : (version : ℕ) → (typed : Bool) → Phrase (IsTail version typed key.PtrToInt) op_tokens Any ptr_to_int_at
+ptr_to_int_tail : (version : ℕ) (typed : Bool) → Phrase (IsTail version typed key.PtrToInt) op_tokens Any ptr_to_int_at
 unfolding ptr_to_int_at
 ptr_to_int_tail version typed = mapped_phrase Any spell_register Any _
     (local_phrase)
     op.PtrToInt (IsTail version typed key.PtrToInt) op_tokens (λ x k. ((refl, tt, tt), refl)) (ptr_to_int_back version typed)
 
-input_back : (version : ℕ) → (typed : Bool) (o : Op) → IsTail version typed key.Input o → (x : Val) × IsVal (Int W64) x × (op.Input x ≡ o)
+input_back : (version : ℕ) (typed : Bool) (o : Op) → IsTail version typed key.Input o → (x : Val) × IsVal (Int W64) x × (op.Input x ≡ o)
 input_back version typed (op.Input index) k = (index, k.2, refl)
 input_back version typed _ k = let e = k.0 in absurd cc
 
-input_tail : (version : ℕ) → (typed : Bool) → Phrase (IsTail version typed key.Input) op_tokens Any input_at
+input_tail : (version : ℕ) (typed : Bool) → Phrase (IsTail version typed key.Input) op_tokens Any input_at
 unfolding input_at
 input_tail version typed = mapped_phrase (IsVal (Int W64)) (spell_val (Int W64)) Any _
     (val_phrase (Int W64))
     op.Input (IsTail version typed key.Input) op_tokens (λ x k. ((refl, tt, k), refl)) (input_back version typed)
 
-modify_back : (version : ℕ) → (typed : Bool) (o : Op) → IsTail version typed key.Modify o → (x : ModifyOp × (Width × (Named × Val))) × (ok_both Any (λ _. ok_both Any (λ width. ok_both Any (λ _. IsVal (Int width))))) x × (modify_of x ≡ o)
+modify_back : (version : ℕ) (typed : Bool) (o : Op) → IsTail version typed key.Modify o → (x : ModifyOp × (Width × (Named × Val))) × (ok_both Any (λ _. ok_both Any (λ width. ok_both Any (λ _. IsVal (Int width))))) x × (modify_of x ≡ o)
 modify_back version typed (op.Modify o width ptr val) k = ((o, (width, (ptr, val))), (tt, (tt, (tt, k.2))), refl)
 modify_back version typed _ k = let e = k.0 in absurd cc
 
-modify_tail : (version : ℕ) → (typed : Bool) → Phrase (IsTail version typed key.Modify) op_tokens Any modify_at
+modify_tail : (version : ℕ) (typed : Bool) → Phrase (IsTail version typed key.Modify) op_tokens Any modify_at
 unfolding modify_at
 modify_tail version typed = mapped_phrase (ok_both Any (λ _. ok_both Any (λ width. ok_both Any (λ _. IsVal (Int width))))) (spell_both (λ o. word_token false (modify_word o) ∷ []) (λ _. spell_both (λ width. width_token width ∷ []) (λ width. spell_both spell_register (λ _ v. plain comma ∷ val_token (Int width) v ∷ [])))) Any _
     (pair_phrase Any (λ _. ok_both Any (λ width. ok_both Any (λ _. IsVal (Int width)))) (λ o. word_token false (modify_word o) ∷ []) (λ _. spell_both (λ width. width_token width ∷ []) (λ width. spell_both spell_register (λ _ v. plain comma ∷ val_token (Int width) v ∷ []))) (one (want_among modifiers)) (λ _. both word_at (λ width. both register_at (λ _. next_value_at (Int width)))) modifier_phrase
@@ -290,89 +290,89 @@ modify_tail version typed = mapped_phrase (ok_both Any (λ _. ok_both Any (λ wi
     (λ width. pair_phrase Any (λ _. IsVal (Int width)) spell_register (λ _ v. plain comma ∷ val_token (Int width) v ∷ []) register_at (λ _. next_value_at (Int width)) local_phrase (λ _. next_value_phrase (Int width)))))
     modify_of (IsTail version typed key.Modify) op_tokens (λ x k. ((refl, tt, k.1.1.1), refl)) (modify_back version typed)
 
-cmp_xchg_back : (version : ℕ) → (typed : Bool) (o : Op) → IsTail version typed key.CmpXchg o → (x : Width × (Named × (Val × Val))) × (ok_both Any (λ width. ok_both Any (λ _. ok_two (Int width)))) x × (cmp_xchg_of x ≡ o)
+cmp_xchg_back : (version : ℕ) (typed : Bool) (o : Op) → IsTail version typed key.CmpXchg o → (x : Width × (Named × (Val × Val))) × (ok_both Any (λ width. ok_both Any (λ _. ok_two (Int width)))) x × (cmp_xchg_of x ≡ o)
 cmp_xchg_back version typed (op.CmpXchg width ptr expected val) k = ((width, (ptr, (expected, val))), (tt, (tt, k.2)), refl)
 cmp_xchg_back version typed _ k = let e = k.0 in absurd cc
 
-cmp_xchg_tail : (version : ℕ) → (typed : Bool) → Phrase (IsTail version typed key.CmpXchg) op_tokens Any cmp_xchg_at
+cmp_xchg_tail : (version : ℕ) (typed : Bool) → Phrase (IsTail version typed key.CmpXchg) op_tokens Any cmp_xchg_at
 unfolding cmp_xchg_at
 cmp_xchg_tail version typed = mapped_phrase (ok_both Any (λ width. ok_both Any (λ _. ok_two (Int width)))) (spell_both (λ width. width_token width ∷ []) (λ width. spell_both spell_register (λ _. (λ x. plain comma ∷ spell_two (Int width) x)))) Any _
     (pair_phrase Any (λ width. ok_both Any (λ _. ok_two (Int width))) (λ width. width_token width ∷ []) (λ width. spell_both spell_register (λ _. (λ x. plain comma ∷ spell_two (Int width) x))) word_at (λ width. both register_at (λ _. next_two_at (Int width))) width_phrase
     (λ width. pair_phrase Any (λ _. ok_two (Int width)) spell_register (λ _. (λ x. plain comma ∷ spell_two (Int width) x)) register_at (λ _. next_two_at (Int width)) local_phrase (λ _. next_two_phrase (Int width))))
     cmp_xchg_of (IsTail version typed key.CmpXchg) op_tokens (λ x k. ((refl, tt, k.1.1), refl)) (cmp_xchg_back version typed)
 
-copy_back : (version : ℕ) → (typed : Bool) (o : Op) → IsTail version typed key.Copy o → (x : Named × (Named × Val)) × (ok_both Any (λ _. ok_both Any (λ _. IsVal (Int W64)))) x × (copy_of x ≡ o)
+copy_back : (version : ℕ) (typed : Bool) (o : Op) → IsTail version typed key.Copy o → (x : Named × (Named × Val)) × (ok_both Any (λ _. ok_both Any (λ _. IsVal (Int W64)))) x × (copy_of x ≡ o)
 copy_back version typed (op.Copy to from len) k = ((to, (from, len)), (tt, (tt, k.2)), refl)
 copy_back version typed _ k = let e = k.0 in absurd cc
 
-copy_tail : (version : ℕ) → (typed : Bool) → Phrase (IsTail version typed key.Copy) op_tokens Any copy_at
+copy_tail : (version : ℕ) (typed : Bool) → Phrase (IsTail version typed key.Copy) op_tokens Any copy_at
 unfolding copy_at
 copy_tail version typed = mapped_phrase (ok_both Any (λ _. ok_both Any (λ _. IsVal (Int W64)))) (spell_both spell_register (λ _. spell_both (λ r. plain comma ∷ register r ∷ []) (λ _ v. plain comma ∷ val_token (Int W64) v ∷ []))) Any _
     (pair_phrase Any (λ _. ok_both Any (λ _. IsVal (Int W64))) spell_register (λ _. spell_both (λ r. plain comma ∷ register r ∷ []) (λ _ v. plain comma ∷ val_token (Int W64) v ∷ [])) register_at (λ _. both next_register_at (λ _. next_value_at (Int W64))) local_phrase
     (λ _. pair_phrase Any (λ _. IsVal (Int W64)) (λ r. plain comma ∷ register r ∷ []) (λ _ v. plain comma ∷ val_token (Int W64) v ∷ []) next_register_at (λ _. next_value_at (Int W64)) next_register_phrase (λ _. next_value_phrase (Int W64))))
     copy_of (IsTail version typed key.Copy) op_tokens (λ x k. ((refl, tt, k.1.1), refl)) (copy_back version typed)
 
-free_back : (version : ℕ) → (typed : Bool) (o : Op) → IsTail version typed key.Free o → (x : Named) × Any x × (op.Free x ≡ o)
+free_back : (version : ℕ) (typed : Bool) (o : Op) → IsTail version typed key.Free o → (x : Named) × Any x × (op.Free x ≡ o)
 free_back version typed (op.Free ptr) k = (ptr, tt, refl)
 free_back version typed _ k = let e = k.0 in absurd cc
 
-free_tail : (version : ℕ) → (typed : Bool) → Phrase (IsTail version typed key.Free) op_tokens Any free_at
+free_tail : (version : ℕ) (typed : Bool) → Phrase (IsTail version typed key.Free) op_tokens Any free_at
 unfolding free_at
 free_tail version typed = mapped_phrase Any spell_register Any _
     (local_phrase)
     op.Free (IsTail version typed key.Free) op_tokens (λ x k. ((refl, tt, tt), refl)) (free_back version typed)
 
-print_back : (version : ℕ) → (typed : Bool) (o : Op) → IsTail version typed key.Print o → (x : Width × Val) × (ok_both Any (λ width. IsVal (Int width))) x × (print_of x ≡ o)
+print_back : (version : ℕ) (typed : Bool) (o : Op) → IsTail version typed key.Print o → (x : Width × Val) × (ok_both Any (λ width. IsVal (Int width))) x × (print_of x ≡ o)
 print_back version typed (op.Print width val) k = ((width, val), (tt, k.2), refl)
 print_back version typed _ k = let e = k.0 in absurd cc
 
-print_tail : (version : ℕ) → (typed : Bool) → Phrase (IsTail version typed key.Print) op_tokens Any print_at
+print_tail : (version : ℕ) (typed : Bool) → Phrase (IsTail version typed key.Print) op_tokens Any print_at
 unfolding print_at
 print_tail version typed = mapped_phrase (ok_both Any (λ width. IsVal (Int width))) (spell_both (λ width. width_token width ∷ []) (λ width. spell_val (Int width))) Any _
     (pair_phrase Any (λ width. IsVal (Int width)) (λ width. width_token width ∷ []) (λ width. spell_val (Int width)) word_at (λ width. value_at (Int width)) width_phrase (λ width. val_phrase (Int width)))
     print_of (IsTail version typed key.Print) op_tokens (λ x k. ((refl, tt, k.1), refl)) (print_back version typed)
 
-call_back : (version : ℕ) → (typed : Bool) (o : Op) → IsTail version typed key.Call o → (x : Option Ty × (Named × List TypedVal)) × (ok_both (TypedIf typed) (λ _. ok_callee)) x × (call_of x ≡ o)
+call_back : (version : ℕ) (typed : Bool) (o : Op) → IsTail version typed key.Call o → (x : Option Ty × (Named × List TypedVal)) × (ok_both (TypedIf typed) (λ _. ok_callee)) x × (call_of x ≡ o)
 call_back version typed (op.Call result function args) k = ((result, (function, args)), (k.1, (tt, k.2)), refl)
 call_back version typed _ k = let e = k.0 in absurd cc
 
-call_tail : (version : ℕ) → (typed : Bool) → Phrase (IsTail version typed key.Call) op_tokens Any (call_at typed)
+call_tail : (version : ℕ) (typed : Bool) → Phrase (IsTail version typed key.Call) op_tokens Any (call_at typed)
 unfolding call_at
 call_tail version typed = mapped_phrase (ok_both (TypedIf typed) (λ _. ok_callee)) (spell_both spell_result (λ _. spell_callee)) Any _
     (pair_phrase (TypedIf typed) (λ _. ok_callee) spell_result (λ _. spell_callee) (result_at typed) (λ _. callee_at) (result_type_phrase typed) (λ _. callee_phrase))
     call_of (IsTail version typed key.Call) op_tokens (λ x k. ((refl, k.0, k.1.1), refl)) (call_back version typed)
 
-host_back : (version : ℕ) → (typed : Bool) (o : Op) → IsTail version typed key.Host o → (x : Ty × (Named × List TypedVal)) × (ok_both Any (λ _. ok_callee)) x × (host_of x ≡ o)
+host_back : (version : ℕ) (typed : Bool) (o : Op) → IsTail version typed key.Host o → (x : Ty × (Named × List TypedVal)) × (ok_both Any (λ _. ok_callee)) x × (host_of x ≡ o)
 host_back version typed (op.Host result host args) k = ((result, (host, args)), (tt, (tt, k.2)), refl)
 host_back version typed _ k = let e = k.0 in absurd cc
 
-host_tail : (version : ℕ) → (typed : Bool) → Phrase (IsTail version typed key.Host) op_tokens Any host_at
+host_tail : (version : ℕ) (typed : Bool) → Phrase (IsTail version typed key.Host) op_tokens Any host_at
 unfolding host_at
 host_tail version typed = mapped_phrase (ok_both Any (λ _. ok_callee)) (spell_both (λ ty. type_token ty ∷ []) (λ _. spell_callee)) Any _
     (pair_phrase Any (λ _. ok_callee) (λ ty. type_token ty ∷ []) (λ _. spell_callee) type_at (λ _. callee_at) type_phrase (λ _. callee_phrase))
     host_of (IsTail version typed key.Host) op_tokens (λ x k. ((refl, tt, k.1.1), refl)) (host_back version typed)
 
-spawn_back : (version : ℕ) → (typed : Bool) (o : Op) → IsTail version typed key.Spawn o → (x : Named × List TypedVal) × ok_callee x × (spawn_of x ≡ o)
+spawn_back : (version : ℕ) (typed : Bool) (o : Op) → IsTail version typed key.Spawn o → (x : Named × List TypedVal) × ok_callee x × (spawn_of x ≡ o)
 spawn_back version typed (op.Spawn function args) k = ((function, args), (tt, k.2), refl)
 spawn_back version typed _ k = let e = k.0 in absurd cc
 
-spawn_tail : (version : ℕ) → (typed : Bool) → Phrase (IsTail version typed key.Spawn) op_tokens Any spawn_at
+spawn_tail : (version : ℕ) (typed : Bool) → Phrase (IsTail version typed key.Spawn) op_tokens Any spawn_at
 unfolding spawn_at
 spawn_tail version typed = mapped_phrase ok_callee spell_callee Any _
     (callee_phrase)
     spawn_of (IsTail version typed key.Spawn) op_tokens (λ x k. ((refl, tt, k.1), refl)) (spawn_back version typed)
 
-join_back : (version : ℕ) → (typed : Bool) (o : Op) → IsTail version typed key.Join o → (x : (Option Ty × ℕ) × Named) × (ok_both (λ (x : Option Ty × ℕ). TypedIf typed x.0) (λ _. Any)) x × (join_of x ≡ o)
+join_back : (version : ℕ) (typed : Bool) (o : Op) → IsTail version typed key.Join o → (x : (Option Ty × ℕ) × Named) × (ok_both (λ (x : Option Ty × ℕ). TypedIf typed x.0) (λ _. Any)) x × (join_of x ≡ o)
 join_back version typed (op.Join result ty_at handle) k = (((result, ty_at), handle), (k.1, tt), refl)
 join_back version typed _ k = let e = k.0 in absurd cc
 
-join_tail : (version : ℕ) → (typed : Bool) → Phrase (IsTail version typed key.Join) op_tokens Any (join_at typed)
+join_tail : (version : ℕ) (typed : Bool) → Phrase (IsTail version typed key.Join) op_tokens Any (join_at typed)
 unfolding join_at
 join_tail version typed = mapped_phrase (ok_both (λ (x : Option Ty × ℕ). TypedIf typed x.0) (λ _. Any)) (spell_both spell_placed_result (λ _. spell_register)) Any _
     (pair_phrase (λ (x : Option Ty × ℕ). TypedIf typed x.0) (λ _. Any) spell_placed_result (λ _. spell_register) (placed_result_at typed) (λ _. register_at) (placed_result_type_phrase typed) (λ _. local_phrase))
     join_of (IsTail version typed key.Join) op_tokens (λ x k. ((refl, k.0, tt), refl)) (join_back version typed)
 
-pub tail_phrase : (version : ℕ) → (typed : Bool) (k : Keyword) → Phrase (IsTail version typed k) op_tokens Any (tail_at version typed k)
+pub tail_phrase : (version : ℕ) (typed : Bool) (k : Keyword) → Phrase (IsTail version typed k) op_tokens Any (tail_at version typed k)
 tail_phrase version typed key.Const = const_tail version typed
 tail_phrase version typed key.Null = null_tail version typed
 tail_phrase version typed (key.Make place) = make_tail version typed place
@@ -525,12 +525,12 @@ IsDefined version o = Defines o × IsOp version o
 abbrev pub defined_tokens : Op → List Asked
 defined_tokens o = word_token true (op_word o) ∷ op_tokens o
 
-defined_there : (version : ℕ) → (x : Keyword × Op) → ok_both IsDefiner (IsTail version true) x → IsDefined version x.1 × (defined_tokens x.1 ≡ spell_both (λ k. word_token true (key_word k) ∷ []) (λ _. op_tokens) x)
+defined_there : (version : ℕ) (x : Keyword × Op) → ok_both IsDefiner (IsTail version true) x → IsDefined version x.1 × (defined_tokens x.1 ≡ spell_both (λ k. word_token true (key_word k) ∷ []) (λ _. op_tokens) x)
 defined_there version x k =
     let same = k.1.0 in
     ((defines x.1 (subst IsDefiner (sym same) k.0) k.1.1, k.1.2), ap (λ (z : List ℕ). word_token true z ∷ op_tokens x.1) (op_word_is x.1 ∙ ap key_word same))
 
-defined_back : (version : ℕ) → (o : Op) → IsDefined version o → (x : Keyword × Op) × ok_both IsDefiner (IsTail version true) x × (second x ≡ o)
+defined_back : (version : ℕ) (o : Op) → IsDefined version o → (x : Keyword × Op) × ok_both IsDefiner (IsTail version true) x × (second x ≡ o)
 defined_back version o k = let d = defining o k.0 in ((key_of o, o), (d.0, (refl, d.1, k.1)), refl)
 
 pub defined_phrase : (version : ℕ) → Phrase (IsDefined version) defined_tokens Any (defined_at version)

@@ -11,12 +11,12 @@ use Rattle.ir_reader.specs.Wants.{begins_if, is_mark, is_any_word}
 use Rattle.ir_reader.specs.Blocks.{some_attr_at, optional_attr_at, param_at, more_params_at, params_at, some_params_at, round_params_at, block_params_at}
 use Rattle.ir_reader.proofs.ValueSteps.{by_more, by_listed}
 
-pub attr_taken : (version : ℕ) → (ts : List Lex) → begins (begins_if is_any_word) ts ≡ true → optional_attr_at version ts ≡ (some_attr_at version) ts
+pub attr_taken : (version : ℕ) (ts : List Lex) → begins (begins_if is_any_word) ts ≡ true → optional_attr_at version ts ≡ (some_attr_at version) ts
 unfolding optional_attr_at some_attr_at
 attr_taken version [] e = absurd cc
 attr_taken version (l ∷ ls) e = rw e refl
 
-pub attr_left : (version : ℕ) → (ts : List Lex) → begins (begins_if is_any_word) ts ≡ false → optional_attr_at version ts ≡ Ok (None, ts)
+pub attr_left : (version : ℕ) (ts : List Lex) → begins (begins_if is_any_word) ts ≡ false → optional_attr_at version ts ≡ Ok (None, ts)
 unfolding optional_attr_at
 attr_left version [] e = refl
 attr_left version (l ∷ ls) e = rw e refl
@@ -33,12 +33,12 @@ pub params_fail_as : (attrs : Option ℕ) (n : ℕ) (text : List ℕ) (s : Stop)
 params_fail_as attrs n text Memory ts h = tt
 params_fail_as attrs n text (At c rest) ts h = params_fails attrs n ts (c, lexes text rest.now) h
 
-pub params_some : (version : ℕ) → (ts : List Lex) → begins (begins_if is_any_word) ts ≡ true → some_params_at version ts ≡ params_at (Some version) 0 ts
+pub params_some : (version : ℕ) (ts : List Lex) → begins (begins_if is_any_word) ts ≡ true → some_params_at version ts ≡ params_at (Some version) 0 ts
 unfolding some_params_at
 params_some version [] e = absurd cc
 params_some version (l ∷ ls) e = rw e (by_listed (params_at (Some version) 0 (l ∷ ls)))
 
-pub params_none : (version : ℕ) → (ts : List Lex) → begins (begins_if is_any_word) ts ≡ false → some_params_at version ts ≡ Ok ([], ts)
+pub params_none : (version : ℕ) (ts : List Lex) → begins (begins_if is_any_word) ts ≡ false → some_params_at version ts ≡ Ok ([], ts)
 unfolding some_params_at
 params_none version [] e = refl
 params_none version (l ∷ ls) e = rw e refl

@@ -65,7 +65,14 @@ fn insts<'a>(
     let mut behind = before;
     let mut rest = tokens;
     while begins_inst(text, rest) {
-        let (next, after) = inst(alloc, version, behind.instructions, behind.registers, text, rest)?;
+        let (next, after) = inst(
+            alloc,
+            version,
+            behind.instructions,
+            behind.registers,
+            text,
+            rest,
+        )?;
         behind = after_inst(behind, next.dest.is_some());
         insts.push(next)?;
         rest = after;

@@ -168,7 +168,13 @@ fn defining<'a>(
 }
 
 #[tactic(auto, unfolding(crate::specs::Insts::alone_at))]
-fn alone<'a>(alloc: Global, version: u8, instructions: u32, text: &[u8], tokens: &'a [Token]) -> Read<'a, Inst>
+fn alone<'a>(
+    alloc: Global,
+    version: u8,
+    instructions: u32,
+    text: &[u8],
+    tokens: &'a [Token],
+) -> Read<'a, Inst>
     ensures { Gives text.now (λ x. (x.0, lexes text.now x.1.now)) result (alone_at version instructions (lexes text.now tokens.now)) }
 {
     let ((op, at), rest) = plain(alloc, version, instructions, text, tokens)?;

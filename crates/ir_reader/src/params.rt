@@ -178,7 +178,12 @@ fn params<'a>(
     more_params(alloc, attrs, before, front, text, rest)
 }
 
-fn some_params<'a>(alloc: Global, version: u8, text: &[u8], tokens: &'a [Token]) -> Read<'a, ListOf<Param>>
+fn some_params<'a>(
+    alloc: Global,
+    version: u8,
+    text: &[u8],
+    tokens: &'a [Token],
+) -> Read<'a, ListOf<Param>>
     ensures { Gives text.now (λ x. (x.0, lexes text.now x.1.now)) result (some_params_at version (lexes text.now tokens.now)) }
 {
     if begins_any_word(text, tokens) {

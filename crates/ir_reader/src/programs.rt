@@ -130,7 +130,12 @@ fn more_functions<'a>(
     Ok((found, rest))
 }
 
-fn functions<'a>(alloc: Global, version: u8, text: &[u8], tokens: &'a [Token]) -> Read<'a, ListOf<Function>>
+fn functions<'a>(
+    alloc: Global,
+    version: u8,
+    text: &[u8],
+    tokens: &'a [Token],
+) -> Read<'a, ListOf<Function>>
     ensures { Gives text.now (λ x. (x.0, lexes text.now x.1.now)) result (functions_at version (lexes text.now tokens.now)) }
 {
     let ((first, behind), rest) = function(alloc, version, 0, 0, text, tokens)?;
@@ -158,11 +163,7 @@ fn version<'a>(text: &[u8], tokens: &'a [Token]) -> Read<'a, u8>
 
 /// The version of a program, behind `bir`, and its functions.
 #[tactic(auto, unfolding(crate::specs::Blocks::program_at))]
-fn program<'a>(
-    alloc: Global,
-    text: &[u8],
-    tokens: &'a [Token],
-) -> Read<'a, (u8, ListOf<Function>)>
+fn program<'a>(alloc: Global, text: &[u8], tokens: &'a [Token]) -> Read<'a, (u8, ListOf<Function>)>
     ensures { Gives text.now (λ x. (x.0, lexes text.now x.1.now)) result (program_at (lexes text.now tokens.now)) }
 {
     let rest = word(b"bir".as_slice(), text, tokens)?;

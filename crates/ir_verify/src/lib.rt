@@ -13,8 +13,8 @@ mod types;
 mod verified;
 mod verifier;
 
-pub use laws::{joins_find_handles, uses_are_assigned};
 pub use ir_rules::Rule;
+pub use laws::{joins_find_handles, uses_are_assigned};
 pub use refusal::VerifyFault;
 pub use verified::Verified;
 pub use verifier::verify;
