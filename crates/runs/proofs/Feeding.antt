@@ -78,6 +78,7 @@ run_agree M limits starts others log same agree r =
     record {
       last = r.last;
       own = r.own;
+      rises = r.rises;
       feeds = subst F same (feeds_agree M limits.turns starts others (starts log.number.0) r.last log.entries agree r.feeds);
       «end» = r.«end»;
       count = r.count;

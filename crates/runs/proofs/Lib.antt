@@ -5,6 +5,7 @@ pub mod Merges
 pub mod RightRun
 pub mod Feeding
 pub mod MergeLaws
+pub mod Counting
 pub mod Tying
 pub mod Assembly
 pub mod Prefixes
@@ -19,5 +20,6 @@ pub mod ReplayPicks
 pub mod ReplayRight
 pub mod ObjectLaws
 pub mod PlainMemory
+pub mod RightMerges
 pub mod RightErases
 pub mod MergesAgree

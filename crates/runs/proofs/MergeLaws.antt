@@ -1,66 +1,63 @@
 -- The merge of logs whose stamps rise is in stamp order, and its part of each thread is that thread's log.
 use Rattle.std.proofs.Common.{◌≡◌, ℕ, suc, ◌<◌, ◌≤◌, Bool, true, false, List, [], ◌∷◌, refl, sym, ◌∙◌, ap, subst, ◌≢◌, inl, inr, arith}
-use Rattle.std.specs.Prelude.{if◌then◌else◌, ◌==◌, ◌⊎◌, nat_lt}
+use Rattle.std.specs.Prelude.{if◌then◌else◌, ◌==◌, ◌⊎◌, nat_le}
 use Rattle.std.proofs.lemmas.Bool.{eq-eqb}
 use Rattle.std.proofs.lemmas.Bool.Decides.{eqb_tells, nat_tests}
 use Rattle.history.specs.declared.entry.Entry.{Entry}
 use Rattle.run_record.specs.declared.log.ThreadLog.{ThreadLog}
 use Rattle.runs.specs.Parts.{of_thread}
 use Rattle.runs.specs.Stamps.{Has, RisesFrom}
-use Rattle.runs.specs.Merge.{inserted, merged_with, merged, entries_of, IsMerge, IsOwn, MayMerge, no_logs, one_more}
+use Rattle.history.specs.Merge.{put_by_stamp}
+use Rattle.runs.specs.Merge.{merged_with, merged, entries_of, IsMerge, IsOwn, MayMerge, no_logs, one_more}
 use Rattle.runs.specs.Right.{NumbersRiseFrom}
 
-pub less_tells : (a b : ℕ) → ((nat_lt a b ≡ true) × (a < b)) ⊎ ((nat_lt a b ≡ false) × (b ≤ a))
-less_tells a b = by_test (nat_lt a b) refl
+pub at_most_tells : (a b : ℕ) → ((nat_le a b ≡ true) × (a ≤ b)) ⊎ ((nat_le a b ≡ false) × (b < a))
+at_most_tells a b = by_test (nat_le a b) refl
   where
-    by_test : (c : Bool) → nat_lt a b ≡ c → ((nat_lt a b ≡ true) × (a < b)) ⊎ ((nat_lt a b ≡ false) × (b ≤ a))
+    by_test : (c : Bool) → nat_le a b ≡ c → ((nat_le a b ≡ true) × (a ≤ b)) ⊎ ((nat_le a b ≡ false) × (b < a))
     by_test true is = inl (is, grind (arith, nat_tests))
     by_test false is = inr (is, grind (arith, nat_tests))
 
-pub in_inserted : (x : Entry) (ys : List Entry) (z : Entry) → Has (inserted x ys) z → (x ≡ z) ⊎ Has ys z
+pub in_inserted : (x : Entry) (ys : List Entry) (z : Entry) → Has (put_by_stamp x ys) z → (x ≡ z) ⊎ Has ys z
 in_inserted x [] z (inl h) = inl h
 in_inserted x [] z (inr h) = absurd h
-in_inserted x (y ∷ ys) z h = by_test (in_inserted x ys z) (nat_lt x.stamp.0 y.stamp.0) h
+in_inserted x (y ∷ ys) z h = by_test (in_inserted x ys z) (nat_le x.stamp.0 y.stamp.0) h
   where
-    by_test : (Has (inserted x ys) z → (x ≡ z) ⊎ Has ys z) → (b : Bool) → Has (if b then x ∷ y ∷ ys else y ∷ inserted x ys) z → (x ≡ z) ⊎ Has (y ∷ ys) z
+    by_test : (Has (put_by_stamp x ys) z → (x ≡ z) ⊎ Has ys z) → (b : Bool) → Has (if b then x ∷ y ∷ ys else y ∷ put_by_stamp x ys) z → (x ≡ z) ⊎ Has (y ∷ ys) z
     by_test more true (inl g) = inl g
     by_test more true (inr g) = inr g
     by_test more false (inl g) = inr (inl g)
     by_test more false (inr g) = elim (more g) [ inl same ↦ inl same | inr there ↦ inr (inr there) ]
 
-pub inserted_rises : (n : ℕ) (x : Entry) (ys : List Entry) → n < x.stamp.0 → RisesFrom n ys → ((y : Entry) → Has ys y → y.stamp.0 ≢ x.stamp.0) → RisesFrom n (inserted x ys)
+pub inserted_rises : (n : ℕ) (x : Entry) (ys : List Entry) → n < x.stamp.0 → RisesFrom n ys → ((y : Entry) → Has ys y → y.stamp.0 ≢ x.stamp.0) → RisesFrom n (put_by_stamp x ys)
 inserted_rises n x [] h r apart = (h, tt)
-inserted_rises n x (y ∷ ys) h r apart = elim (less_tells x.stamp.0 y.stamp.0) [
-  | inl lower ↦ rw lower.0 (h, (lower.1, r.1))
-  | inr above ↦ rw above.0 (
-    r.0,
-    (
-        let other : y.stamp.0 ≢ x.stamp.0 = apart y (inl refl) in
-        let strictly : y.stamp.0 < x.stamp.0 = omega (arith, above.1, other) in
-        inserted_rises y.stamp.0 x ys strictly r.1 (λ z g. apart z (inr g))
-        ),
-  )
+inserted_rises n x (y ∷ ys) h r apart = elim (at_most_tells x.stamp.0 y.stamp.0) [
+  | inl lower ↦
+      let other : y.stamp.0 ≢ x.stamp.0 = apart y (inl refl) in
+      let strictly : x.stamp.0 < y.stamp.0 = omega (arith, lower.1, other) in
+      rw lower.0 (h, (strictly, r.1))
+  | inr above ↦ rw above.0 (r.0, inserted_rises y.stamp.0 x ys above.1 r.1 (λ z g. apart z (inr g)))
 ]
 
 -- into the part of its own thread it goes first, where that part is later
-pub own_inserted : (t : ℕ) (x : Entry) (zs xs : List Entry) → of_thread t zs ≡ xs → RisesFrom x.stamp.0 xs → x.thread.0 ≡ t → of_thread t (inserted x zs) ≡ x ∷ xs
+pub own_inserted : (t : ℕ) (x : Entry) (zs xs : List Entry) → of_thread t zs ≡ xs → RisesFrom x.stamp.0 xs → x.thread.0 ≡ t → of_thread t (put_by_stamp x zs) ≡ x ∷ xs
 own_inserted t x [] xs is r own = rw (eq-eqb x.thread.0 t own) (ap (λ l. x ∷ l) is)
-own_inserted t x (z ∷ zs) xs is r own = elim (less_tells x.stamp.0 z.stamp.0) [
+own_inserted t x (z ∷ zs) xs is r own = elim (at_most_tells x.stamp.0 z.stamp.0) [
   | inl lower ↦ rw lower.0 (rw (eq-eqb x.thread.0 t own) (ap (λ l. x ∷ l) is))
   | inr above ↦ rw above.0 (by_thread (own_inserted t x zs xs) (z.thread.0 == t) refl above.1)
 ]
   where
-    by_thread : (of_thread t zs ≡ xs → RisesFrom x.stamp.0 xs → x.thread.0 ≡ t → of_thread t (inserted x zs) ≡ x ∷ xs)
-        → (b : Bool) → (z.thread.0 == t) ≡ b → z.stamp.0 ≤ x.stamp.0 → of_thread t (z ∷ inserted x zs) ≡ x ∷ xs
+    by_thread : (of_thread t zs ≡ xs → RisesFrom x.stamp.0 xs → x.thread.0 ≡ t → of_thread t (put_by_stamp x zs) ≡ x ∷ xs)
+        → (b : Bool) → (z.thread.0 == t) ≡ b → z.stamp.0 < x.stamp.0 → of_thread t (z ∷ put_by_stamp x zs) ≡ x ∷ xs
     by_thread more true at le =
         let all : z ∷ of_thread t zs ≡ xs = rw at at is in
         let rises : RisesFrom x.stamp.0 (z ∷ of_thread t zs) = subst (λ l. RisesFrom x.stamp.0 l) (sym all) r in
         absurd (omega (arith, rises.0, le))
     by_thread more false at le = rw at (more (rw at at is) r own)
 
-pub other_inserted : (t : ℕ) (x : Entry) (zs : List Entry) → (x.thread.0 == t) ≡ false → of_thread t (inserted x zs) ≡ of_thread t zs
+pub other_inserted : (t : ℕ) (x : Entry) (zs : List Entry) → (x.thread.0 == t) ≡ false → of_thread t (put_by_stamp x zs) ≡ of_thread t zs
 other_inserted t x [] miss = rw miss refl
-other_inserted t x (z ∷ zs) miss = elim (less_tells x.stamp.0 z.stamp.0) [
+other_inserted t x (z ∷ zs) miss = elim (at_most_tells x.stamp.0 z.stamp.0) [
   | inl lower ↦ rw lower.0 (rw miss refl)
   | inr above ↦ rw above.0 (ap (λ l. if z.thread.0 == t then z ∷ l else l) (other_inserted t x zs miss))
 ]

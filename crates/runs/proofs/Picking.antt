@@ -4,6 +4,7 @@ use Rattle.std.specs.Prelude.{Some, None, slice_get}
 use Rattle.std.specs.declared.option.Option.{Option}
 use Rattle.history.specs.declared.ask.Ask.{Ask}
 use Rattle.history.specs.declared.ask.Ask.TheVariants as ask
+use Rattle.run_record.specs.declared.log.End.{End}
 use Rattle.run_record.specs.declared.log.End.TheVariants as log_end
 use Rattle.history.specs.declared.entry.Entry.{Entry}
 use Rattle.bsan_ids.specs.declared.numbers.Limits.{Limits}
@@ -74,9 +75,9 @@ replies_next M O A limits p w e a (request.Join c) lim h asked is draws g = (g.0
 replies_next M O A limits p w e a _ lim h asked is draws g = (g.0, g.1, rw (h.objects g.0.0) g.2)
 
 -- the step of a pick
-abbrev pub step_is_event : (M : Machine) (O : Memory) (A : Allowed) (limits : Limits) (p : Progress M O) (w : World M O) (t : ℕ) (f : Fiber M) (now : M.State) (e : Entry)
-    → limits.allocs ≡ A.allocs → Tracks M O p w → slice_get p.threads t ≡ Some f → Chooses M O A limits p t f (Steps now e) → Event M O A w e
-step_is_event M O A limits p w t f now e lim h at c =
+abbrev pub step_is_event : (M : Machine) (O : Memory) (A : Allowed) (limits : Limits) (p : Progress M O) (w : World M O) (t : ℕ) (f : Fiber M) (now : M.State) (e : Entry) (over : Option End)
+    → limits.allocs ≡ A.allocs → Tracks M O p w → slice_get p.threads t ≡ Some f → Chooses M O A limits p t f (Steps now e over) → Event M O A w e
+step_is_event M O A limits p w t f now e over lim h at c =
     let s = h.threads t f at in
     record {
       before = s.0;

@@ -1,6 +1,6 @@
 -- What stands before a step of a pick stands after it.
 use Rattle.std.proofs.Common.{◌≡◌, ℕ, ◌+◌, ◌<◌, ◌≤◌, Bool, true, false, [], ◌∷◌, ◌++◌, refl, sym, ◌∙◌, ap, subst, ◌≢◌, inl, inr, arith, length}
-use Rattle.std.specs.Prelude.{Some, None, slice_get, ◌==◌, ◌⊎◌, if◌then◌else◌}
+use Rattle.std.specs.Prelude.{Some, None, slice_get, count_by, ◌==◌, ◌⊎◌, if◌then◌else◌}
 use Rattle.std.specs.declared.option.Option.{Option}
 use Rattle.std.proofs.lemmas.Bool.{true≢false, eq-eqb}
 use Rattle.std.proofs.lemmas.Bool.Decides.{eqb_tells}
@@ -19,8 +19,9 @@ use Rattle.runs.specs.Parts.{of_thread, child_of, is_child}
 use Rattle.runs.specs.Machine.{Machine, Memory, Settles}
 use Rattle.runs.specs.Threads.{Feeds, StartsAs, EndsAs}
 use Rattle.runs.specs.Interleaving.{World, first_world, world_after, HasReturned, Allowed, Event, Interleaves, last_world}
+use Rattle.runs.specs.Right.{starts_thread}
 use Rattle.runs.specs.Stamps.{Has}
-use Rattle.runs.specs.Replay.{Fiber, Progress, Steps, RepliesNext, Chooses, picked}
+use Rattle.runs.specs.Replay.{Fiber, Progress, Steps, RepliesNext, IsOwnEnd, RestsAs, Chooses, picked}
 use Rattle.runs.specs.ReplayLaw.{makes, MakesAlone, FitsAlways}
 use Rattle.runs.proofs.Feeding.{feeds_entry, feeds_agree, feeds_settled}
 use Rattle.runs.proofs.Merges.{in_all}
@@ -28,31 +29,32 @@ use Rattle.runs.proofs.Order.{some_child}
 use Rattle.runs.proofs.Picking.{Tracks, spawn_within, make_within, step_is_event}
 use Rattle.runs.proofs.Prefixes.{run_more, last_world_more}
 use Rattle.runs.proofs.Tracking.{some_inj, not_none, child_next, spawn_child, other_stands}
-use Rattle.runs.proofs.FiberLists.{has_old, has_last, has_more, own_more, other_more, numbered_more}
+use Rattle.runs.proofs.Counting.{one_is, none_is, count_none}
+use Rattle.runs.proofs.FiberLists.{has_old, has_last, has_more, own_more, other_more, numbered_more, count_more}
 use Rattle.runs.proofs.ReplayState.{entries_in, end_in, HasParent, IsRoot, NotReturned, Joined, StartedOne, Stands, has_end, EndedStay, end_stays, not_ended, object_past}
 use Rattle.runs.proofs.ReplayStep.{After, own, other, new, after_step, kept_step, own_step, long_step, child_is_spawn, long_objects, objects_grow, drawn_allocs, object_step}
 
 -- a step that a pick makes, with what stands before it
-pub record Goes (M : Machine) (O : Memory) (A : Allowed) (limits : Limits) (main : ℕ) (start : M.State) (p : Progress M O) (t : ℕ) (f : Fiber M) (now : M.State) (e : Entry) : Type 0 where
+pub record Goes (M : Machine) (O : Memory) (A : Allowed) (limits : Limits) (main : ℕ) (start : M.State) (p : Progress M O) (t : ℕ) (f : Fiber M) (now : M.State) (e : Entry) (over : Option End) : Type 0 where
   pub limit : limits.allocs ≡ A.allocs
   pub laws : MakesAlone O
   pub fits : FitsAlways M O A start
   pub stands : Stands M O A limits main start p
   pub at : slice_get p.threads t ≡ Some f
   pub «open» : f.«end» ≡ None
-  pub chosen : Chooses M O A limits p t f (Steps now e)
+  pub chosen : Chooses M O A limits p t f (Steps now e over)
   pub place : e.stamp.0 ≡ length p.merge + 1
 
 makes_is : (r : Request) → makes r ≡ true → (size : ℕ) × (place : Place) × (r ≡ request.Make size place)
 makes_is (request.Make size place) is = (size, place, refl)
 makes_is _ is = absurd (true≢false (sym is))
 
-module _ (M : Machine) (O : Memory) (A : Allowed) (limits : Limits) (main : ℕ) (start : M.State) (p : Progress M O) (t : ℕ) (f : Fiber M) (now : M.State) (e : Entry) (g : Goes M O A limits main start p t f now e) where
+module _ (M : Machine) (O : Memory) (A : Allowed) (limits : Limits) (main : ℕ) (start : M.State) (p : Progress M O) (t : ℕ) (f : Fiber M) (now : M.State) (e : Entry) (over : Option End) (g : Goes M O A limits main start p t f now e over) where
   abbrev f' : Fiber M
-  f' = record f { state = M.after now e; entries = f.entries ++ e ∷ [] }
+  f' = record f { state = M.after now e; entries = f.entries ++ e ∷ []; «end» = over }
 
   abbrev q : Progress M O
-  q = picked M O p t f (Steps now e)
+  q = picked M O p t f (Steps now e over)
 
   abbrev w0 : World M O
   w0 = first_world M O start
@@ -61,7 +63,7 @@ module _ (M : Machine) (O : Memory) (A : Allowed) (limits : Limits) (main : ℕ)
   w = last_world M O A w0 p.merge g.stands.run
 
   abbrev event : Event M O A w e
-  event = step_is_event M O A limits p w t f now e g.limit g.stands.tracks g.at g.chosen
+  event = step_is_event M O A limits p w t f now e over g.limit g.stands.tracks g.at g.chosen
 
   within : t < length p.threads
   within = slice_get_within p.threads t f g.at
@@ -96,6 +98,13 @@ module _ (M : Machine) (O : Memory) (A : Allowed) (limits : Limits) (main : ℕ)
 
   other_thread : (u : ℕ) → t ≢ u → (e.thread.0 == u) ≡ false
   other_thread u ne = elim (eqb_tells e.thread.0 u) [ inl hit ↦ absurd (ne (sym g.chosen.4 ∙ hit.1)) | inr miss ↦ miss.0 ]
+
+  -- the end that the step brings
+  own_end : (why : End) → over ≡ Some why → IsOwnEnd why × EndsAs M limits (M.after now e) why
+  own_end why is = subst (λ o. RestsAs M limits (M.after now e) o) is g.chosen.9
+
+  brought : (k : Fiber M) (why : End) → f' ≡ k → k.«end» ≡ Some why → over ≡ Some why
+  brought k why same is = ap (λ (h : Fiber M). h.«end») same ∙ is
 
   ahead : (u : ℕ) (k : Fiber M) → slice_get q.threads u ≡ Some k → After M p.threads t f' (M.child now) e.request u k
   ahead u k got = after_step M p.threads t f f' (M.child now) e.request u k g.at got
@@ -168,7 +177,9 @@ module _ (M : Machine) (O : Memory) (A : Allowed) (limits : Limits) (main : ℕ)
           ]
 
       returned : (u v : ℕ) (o : Option Prov) (k : Fiber M) → After M p.threads t f' (M.child now) e.request u k → k.«end» ≡ Some (log_end.Returned v o) → HasReturned M ((world_after M O w now e).threads u) v o
-      returned u v o k (own here same) is = absurd (not_ended k.«end» (sym (ap (λ (h : Fiber M). h.«end») same) ∙ g.«open») is)
+      returned u v o k (own here same) is =
+          let ends = (own_end (log_end.Returned v o) (brought k (log_end.Returned v o) same is)).1 in
+          record { before = M.after now e; now = M.after now e; started = rw (eq-eqb e.thread.0 u (g.chosen.4 ∙ here)) refl; settles = (0, refl); returned = ends.0 }
       returned u v o k (other ne got) is =
           rw (other_thread u ne, not_child u (slice_get_within p.threads u k got)) (g.stands.tracks.returned u v o (ap end_in got ∙ is))
       returned u v o k (new n at last same) is = absurd (not_ended k.«end» (sym (ap (λ (h : Fiber M). h.«end») same)) is)
@@ -236,7 +247,7 @@ module _ (M : Machine) (O : Memory) (A : Allowed) (limits : Limits) (main : ℕ)
       longer : (v : ℕ) (parent : Option ThreadNo) (function : ℕ) → IsRoot main v parent function ⊎ HasParent p.merge v parent function → IsRoot main v parent function ⊎ HasParent q.merge v parent function
       longer v parent function (inl r) = inl r
       longer v parent function (inr h) =
-          inr (record { number = h.number; spawn = h.spawn; names = h.names; stands = has_old p.merge (e ∷ []) h.spawn h.stands; own = h.own; request = h.request; answers = h.answers; above = h.above })
+          inr (record { number = h.number; spawn = h.spawn; names = h.names; stands = has_old p.merge (e ∷ []) h.spawn h.stands; own = h.own; request = h.request; answers = h.answers; below = h.below })
 
       by_place : After M p.threads t f' (M.child now) e.request u k → IsRoot main u k.parent k.function ⊎ HasParent q.merge u k.parent k.function
       by_place (own here same) =
@@ -247,7 +258,7 @@ module _ (M : Machine) (O : Memory) (A : Allowed) (limits : Limits) (main : ℕ)
           let l = within in
           inr
           (subst (λ (h : Fiber M). HasParent q.merge u h.parent h.function) same
-          (record { number = record { 0 = t }; spawn = e; names = refl; stands = has_last p.merge e; own = g.chosen.4; request = is; answers = is_spawned n is ∙ ap Some (sym last); above = omega (arith, last, l) }))
+          (record { number = record { 0 = t }; spawn = e; names = refl; stands = has_last p.merge e; own = g.chosen.4; request = is; answers = is_spawned n is ∙ ap Some (sym last); below = omega (arith, last, l) }))
 
   joined_new : (x : Entry) (c : ThreadNo) (r : Request) → e ≡ x → e.request ≡ r → r ≡ request.Join c → RepliesNext M O A p e r → Joined (end_in (slice_get p.threads c.0)) x
   joined_new x c r same at is next =
@@ -283,19 +294,31 @@ module _ (M : Machine) (O : Memory) (A : Allowed) (limits : Limits) (main : ℕ)
         (record { child = record { 0 = p.words.threads + 1 }; above = omega arith; below = omega (arith, long, l); reply = ap (λ (y : Reply). y.plain) next })
   ]
 
-  once_step : (x y : Entry) (c : ℕ) → Has q.merge x → Has q.merge y → child_of x ≡ Some c → child_of y ≡ Some c → x ≡ y
-  once_step x y c in_x in_y is_x is_y = elim (has_more p.merge e x in_x) [
-    | inl old_x ↦ elim (has_more p.merge e y in_y) [
-      | inl old_y ↦ g.stands.once x y c old_x old_y is_x is_y
-      | inr same_y ↦
-          let number = new_child c (ap child_of same_y ∙ is_y) in let b = g.stands.below x c old_x is_x in absurd (omega (arith, number, b))
-    ]
-    | inr same_x ↦ elim (has_more p.merge e y in_y) [
-      | inl old_y ↦
-          let number = new_child c (ap child_of same_x ∙ is_x) in let b = g.stands.below y c old_y is_y in absurd (omega (arith, number, b))
-      | inr same_y ↦ sym same_x ∙ same_y
-    ]
-  ]
+  -- no old entry starts the new thread
+  none_started : (c : ℕ) → child_of e ≡ Some c → count_by (starts_thread c) p.merge ≡ 0
+  none_started c is = count_none (starts_thread c) p.merge (λ x in_. by_test x in_ (starts_thread c x) refl)
+    where
+      by_test : (x : Entry) → Has p.merge x → (b : Bool) → starts_thread c x ≡ b → starts_thread c x ≡ false
+      by_test x in_ false off = off
+      by_test x in_ true hit =
+          let number = new_child c is in
+          let b = g.stands.below x c in_ (some_child (child_of x) c hit) in
+          absurd (omega (arith, number, b))
+
+  once_step : (c : ℕ) → count_by (starts_thread c) q.merge ≤ 1
+  once_step c = by_test (starts_thread c e) refl
+    where
+      by_test : (b : Bool) → starts_thread c e ≡ b → count_by (starts_thread c) q.merge ≤ 1
+      by_test true hit =
+          let none = none_started c (some_child (child_of e) c hit) in
+          let all = count_more (starts_thread c) p.merge e in
+          let one = one_is (starts_thread c) e hit in
+          omega (arith, none, all, one)
+      by_test false off =
+          let old = g.stands.once c in
+          let all = count_more (starts_thread c) p.merge e in
+          let none = none_is (starts_thread c) e off in
+          omega (arith, old, all, none)
 
   below_step : (x : Entry) (c : ℕ) → Has q.merge x → child_of x ≡ Some c → c < length q.threads
   below_step x c in_ is = elim (has_more p.merge e x in_) [
@@ -339,12 +362,12 @@ module _ (M : Machine) (O : Memory) (A : Allowed) (limits : Limits) (main : ℕ)
   }
     where
       by_end : (u : ℕ) (k : Fiber M) (why : End) → After M p.threads t f' (M.child now) e.request u k → k.«end» ≡ Some why → EndsAs M limits k.state why
-      by_end u k why (own here same) is = absurd (not_ended k.«end» (sym (ap (λ (h : Fiber M). h.«end») same) ∙ g.«open») is)
+      by_end u k why (own here same) is = subst (λ (h : Fiber M). EndsAs M limits h.state why) same (own_end why (brought k why same is)).1
       by_end u k why (other ne got) is = g.stands.ends u k why got is
       by_end u k why (new n at last same) is = absurd (not_ended k.«end» (sym (ap (λ (h : Fiber M). h.«end») same)) is)
 
       by_ended : (u : ℕ) (k : Fiber M) (c : ThreadNo) → After M p.threads t f' (M.child now) e.request u k → k.«end» ≡ Some (log_end.ChildEnded c) → NotReturned (end_in (slice_get p.threads c.0))
-      by_ended u k c (own here same) is = absurd (not_ended k.«end» (sym (ap (λ (h : Fiber M). h.«end») same) ∙ g.«open») is)
+      by_ended u k c (own here same) is = absurd (own_end (log_end.ChildEnded c) (brought k (log_end.ChildEnded c) same is)).0
       by_ended u k c (other ne got) is = g.stands.ended u k c got is
       by_ended u k c (new n at last same) is = absurd (not_ended k.«end» (sym (ap (λ (h : Fiber M). h.«end») same)) is)
 

@@ -135,13 +135,13 @@ module _ (M : Machine) (O : Memory) (A : Allowed) (limits : Limits) (main : ℕ)
         stands = stands_aside M O A limits main start p t f now (Some why) words k.stands a;
         sums = sums_aside M O limits p t f now (Some why) words k.sums at opened (end_draws M O limits p now why c.1 c.2);
       }
-  by_choice p t f (Steps now e) k at opened c =
+  by_choice p t f (Steps now e over) k at opened c =
       let none = none_beyond limits.steps (length p.merge) _ p.words.stamps k.sums.stamps c.3 k.sums.full in
       let stamps = k.sums.stamps in
       let stamp = c.5 in
       record {
-        stands = stands_step M O A limits main start p t f now e (record { limit = limit; laws = laws; fits = fits; stands = k.stands; at = at; «open» = opened; chosen = c; place = omega (arith, none, stamps, stamp) });
-        sums = sums_step M O A limits p t f now e laws k.stands.objects_fewer k.sums at opened c.3 c.8;
+        stands = stands_step M O A limits main start p t f now e over (record { limit = limit; laws = laws; fits = fits; stands = k.stands; at = at; «open» = opened; chosen = c; place = omega (arith, none, stamps, stamp) });
+        sums = sums_step M O A limits p t f now e over laws k.stands.objects_fewer k.sums at opened c.3 c.8 c.9;
       }
 
   pick_keeps : (p q : Progress M O) (t : ℕ) → Kept M O A limits main start p → Picks M O A limits p t q → Kept M O A limits main start q
@@ -215,7 +215,7 @@ module _ (M : Machine) (O : Memory) (A : Allowed) (limits : Limits) (main : ℕ)
       ended = λ t f c got is. absurd (root_open t f (log_end.ChildEnded c) got is);
       joins = λ e c in_ is. absurd in_;
       spawns = λ e f in_ is. absurd in_;
-      once = λ x y c in_ in_y is is_y. absurd in_;
+      once = λ c. omega arith;
       below = λ x c in_ is. absurd in_;
       has_main = omega arith;
       fewer = omega arith;

@@ -6,6 +6,7 @@ use Rattle.std.specs.declared.option.Option.{Option}
 use Rattle.std.proofs.lemmas.Bool.{true≢false, eq-eqb, eqb-true}
 use Rattle.std.proofs.lemmas.Bool.Decides.{eqb_tells, nat_tests}
 use Rattle.std.proofs.lemmas.List.Elements.{All-from_recursion}
+use Rattle.std.proofs.lemmas.Option.{slice_get_within}
 use Rattle.bsan_ids.specs.declared.numbers.AllocNo.{AllocNo}
 use Rattle.bsan_ids.specs.declared.numbers.Limits.{Limits}
 use Rattle.history.specs.declared.ask.Ask.{Ask}
@@ -24,14 +25,15 @@ use Rattle.runs.specs.Threads.{Feeds, IsThreadRun, EndsAs}
 use Rattle.runs.specs.Interleaving.{World, first_world, world_after, Allowed, Replies, Interleaves, Legal, MakesUnmade}
 use Rattle.runs.specs.Merge.{merged, entries_of, IsOwn, MayMerge, no_logs, one_more}
 use Rattle.runs.specs.Stamps.{Has, RisesFrom}
-use Rattle.runs.specs.Right.{HasLog, NumbersRiseFrom, end_of, IsSpawnedOnce, HasThreads, HasRuns, MergesToRun, HasHistories, HasCounts, IsRight, AllocsRiseFrom, history_of, ended_asking, asks_make, asks_spawn, beyond, beyond_of, alloc_numbers, thread_numbers, counting_from, is_make, is_spawn}
+use Rattle.runs.specs.Right.{HasLog, NumbersRiseFrom, end_of, IsSpawnedOnce, HasThreads, HasRuns, MergesToRun, HasHistories, HasCounts, IsRight, AllocsRiseFrom, history_of, starts_thread, IsReached, is_main, is_spawned, StandsAsking, AtLeast, asks_make, asks_spawn, beyond, beyond_of, alloc_numbers, thread_numbers, counting_from, is_make, is_spawn}
 use Rattle.runs.specs.Replay.{Fiber, Progress}
 use Rattle.runs.specs.ReplayLaw.{log_of, logs_from, with_history, histories_from, record_of, makes, ReplayIsRight}
 use Rattle.runs.proofs.MergeLaws.{above_first, merged_is_merge, rises_lower}
 use Rattle.runs.proofs.Merges.{in_own_thread, in_all, same_by_threads, restrictions_swap, alloc_rises}
 use Rattle.runs.proofs.Picking.{not_on_number}
 use Rattle.runs.proofs.Tracking.{some_inj}
-use Rattle.runs.proofs.Tying.{log_of_entry}
+use Rattle.runs.proofs.Counting.{count_there, at_least_later}
+use Rattle.runs.proofs.Tying.{log_of_entry, starts_one}
 use Rattle.runs.proofs.FiberLists.{numbered_rises, total}
 use Rattle.runs.proofs.ReplayState.{entries_in, end_in, HasParent, Stands, has_end}
 use Rattle.runs.proofs.ReplaySums.{ended_by, beyond_at, beyond_in, allocs_at, threads_at, ended_at}
@@ -239,6 +241,7 @@ abbrev run_along : (M : Machine) (limits : Limits) (starts : ℕ → M.State) (l
 run_along M limits starts l m is r = record {
   last = r.last;
   own = subst (λ (z : ThreadLog). All (λ (e : Entry). e.thread ≡ z.number) z.entries) is r.own;
+  rises = subst (λ (z : ThreadLog). RisesFrom 0 z.entries) is r.rises;
   feeds = subst (λ (z : ThreadLog). Feeds M limits.turns starts (starts z.number.0) z.entries r.last) is r.feeds;
   «end» = subst (λ (z : ThreadLog). EndsAs M limits r.last z.«end») is r.«end»;
   count = subst (λ (z : ThreadLog). z.instructions ≡ M.count r.last) is r.count;
@@ -261,22 +264,35 @@ module _ (M : Machine) (limits : Limits) (starts : ℕ → M.State) where
   runs_of (f ∷ fs) k all log (inl is) = run_along M limits starts (log_of M k f) log is (ran_first f fs k all).run
   runs_of (f ∷ fs) k all log (inr h) = runs_of fs (suc k) (ran_rest f fs k all) log h
 
-  asked : (asks : Ask → Bool) (f : Fiber M) → f.«end» ≢ None → (s : M.State) → s ≡ f.state → (if asks (M.ask s) then 1 else 0) ≡ ended_at M asks f
-  asked asks f over s is = by_end f.«end» over
-    where
-      by_end : (o : Option End) → o ≢ None → (if asks (M.ask s) then 1 else 0) ≡ ended_by asks (M.ask f.state) o
-      by_end None some = absurd (some refl)
-      by_end (Some e) some = ap (λ z. if asks (M.ask z) then 1 else 0) is
+  stands_asking : (asks : Ask → Bool) (f : Fiber M) (k : ℕ) → Ran M limits starts k f → asks (M.ask f.state) ≡ true → StandsAsking M asks limits starts (log_of M k f)
+  stands_asking asks f k mine is = record {
+    last = f.state;
+    feeds = subst (λ s. Feeds M limits.turns starts (starts k) f.entries s) mine.last mine.run.feeds;
+    count = refl;
+    asking = is;
+  }
 
-  asking : (asks : Ask → Bool) (fs : List (Fiber M)) (k : ℕ) (all : AllRan M limits starts fs k)
-      → ended_asking M asks limits starts (logs_from M k fs) (runs_of fs k all) ≡ total (λ f. ended_at M asks f) fs
-  asking asks [] k all = refl
-  asking asks (f ∷ fs) k all =
-      let mine = ran_first f fs k all in
-      let here = asked asks f mine.over mine.run.last mine.last in
-      let rest = asking asks fs (suc k) (ran_rest f fs k all) in
-      ap (λ n. n + ended_asking M asks limits starts (logs_from M (suc k) fs) (runs_of fs (suc k) (ran_rest f fs k all))) here
-      ∙ ap (λ n. ended_at M asks f + n) rest
+  -- one log more
+  asking_more : (asks : Ask → Bool) (f : Fiber M) (k more : ℕ) (logs : List ThreadLog) → Ran M limits starts k f → AtLeast (StandsAsking M asks limits starts) more logs
+      → AtLeast (StandsAsking M asks limits starts) (ended_at M asks f + more) (log_of M k f ∷ logs)
+  asking_more asks f k more logs mine rest = by_end f.«end» refl
+    where
+      by_ask : (b : Bool) → asks (M.ask f.state) ≡ b → AtLeast (StandsAsking M asks limits starts) ((if b then 1 else 0) + more) (log_of M k f ∷ logs)
+      by_ask true is =
+          let one : suc more ≡ 1 + more = omega arith in
+          subst (λ n. AtLeast (StandsAsking M asks limits starts) n (log_of M k f ∷ logs)) one (inl (stands_asking asks f k mine is, rest))
+      by_ask false is =
+          let none : more ≡ 0 + more = omega arith in
+          subst (λ n. AtLeast (StandsAsking M asks limits starts) n (log_of M k f ∷ logs)) none (at_least_later (StandsAsking M asks limits starts) more (log_of M k f) logs rest)
+
+      by_end : (o : Option End) → f.«end» ≡ o → AtLeast (StandsAsking M asks limits starts) (ended_by asks (M.ask f.state) o + more) (log_of M k f ∷ logs)
+      by_end None is = absurd (mine.over is)
+      by_end (Some e) is = by_ask (asks (M.ask f.state)) refl
+
+  -- the logs of fibers that ended while they asked so
+  asking : (asks : Ask → Bool) (fs : List (Fiber M)) (k : ℕ) → AllRan M limits starts fs k → AtLeast (StandsAsking M asks limits starts) (total (λ f. ended_at M asks f) fs) (logs_from M k fs)
+  asking asks [] k all = tt
+  asking asks (f ∷ fs) k all = asking_more asks f k (total (λ g. ended_at M asks g) fs) (logs_from M (suc k) fs) (ran_first f fs k all) (asking asks fs (suc k) (ran_rest f fs k all))
 
 -- all of it ----------------------------------------------------------------------------------
 
@@ -309,6 +325,15 @@ module _ (M : Machine) (O : Memory) (A : Allowed) (limits : Limits) (main : ℕ)
   has_log : (t : ℕ) (f : Fiber M) → slice_get p.threads t ≡ Some f → HasLog logs (log_of M t f)
   has_log t f got = subst (λ n. HasLog logs (log_of M n f)) (zero_right t) (log_put M p.threads 0 t f got)
 
+  rising : RisesFrom 0 p.merge
+  rising = numbered_rises 0 p.merge s.numbered
+
+  merge_is : merged logs ≡ p.merge
+  merge_is =
+      let may : MayMerge logs = may_merge M p.merge rising p.threads 0 (λ i f got. ap (λ n. of_thread n p.merge) (zero_right i) ∙ s.parts i ∙ ap entries_in got) in
+      let m = merged_is_merge logs (numbers_rise M p.threads 0) may in
+      same_by_threads (merged logs) p.merge 0 0 m.rises rising (λ t. m.parts t ∙ entries_is t)
+
   spawned_once : (log : ThreadLog) (f : Fiber M) → HasLog logs log → log_of M log.number.0 f ≡ log → HasParent p.merge log.number.0 f.parent f.function → IsSpawnedOnce logs log
   spawned_once log f h is parent =
       let at : Has (of_thread parent.number.0 p.merge) parent.spawn = subst (λ n. Has (of_thread n p.merge) parent.spawn) parent.own (in_own_thread p.merge parent.spawn parent.stands) in
@@ -319,7 +344,10 @@ module _ (M : Machine) (O : Memory) (A : Allowed) (limits : Limits) (main : ℕ)
         stands = subst (λ l. Has l parent.spawn) (sym (entries_is parent.number.0)) at;
         request = parent.request ∙ ap (λ (l : ThreadLog). request.Spawn l.entry_function) is;
         answers = parent.answers;
-        once = λ l x in_l in_x c. s.once x parent.spawn log.number.0 (in_merge l x in_l in_x) parent.stands c parent.answers;
+        once =
+            let few = s.once log.number.0 in
+            let some = count_there (starts_thread log.number.0) p.merge parent.spawn parent.stands (starts_one parent.spawn log.number.0 parent.answers) in
+            subst (λ l. count_by (starts_thread log.number.0) l ≡ 1) (sym merge_is) (omega (arith, few, some));
       }
 
   threads_right : HasThreads main logs
@@ -329,7 +357,7 @@ module _ (M : Machine) (O : Memory) (A : Allowed) (limits : Limits) (main : ℕ)
         let f = in_log log h in
         elim (s.roots log.number.0 f.0 f.1) [
           | inl root ↦ (ap (λ (l : ThreadLog). l.parent) (sym f.2) ∙ root.none, ap (λ (l : ThreadLog). l.entry_function) (sym f.2) ∙ root.first)
-          | inr parent ↦ absurd (let a = parent.above in omega (arith, a, zero_is))
+          | inr parent ↦ absurd (let a = parent.below in omega (arith, a, zero_is))
         ];
     has_first = (let f = got_within p.threads 0 s.has_main in (log_of M 0 f.0, has_log 0 f.0 f.1, refl));
     spawned = λ log h.
@@ -352,6 +380,7 @@ module _ (M : Machine) (O : Memory) (A : Allowed) (limits : Limits) (main : ℕ)
           record {
             run = record {
               last = f.state;
+              rises = subst (λ l. RisesFrom 0 l) part (part_rises t 0 p.merge rising);
               own = All-from_recursion _ _ (subst (λ l. AllByRecursion (λ (x : Entry). x.thread ≡ record { 0 = t }) l) part (own_all (of_thread t p.merge) (own_part t p.merge)));
               feeds = s.feeds t f got;
               «end» = ends;
@@ -369,10 +398,24 @@ module _ (M : Machine) (O : Memory) (A : Allowed) (limits : Limits) (main : ℕ)
   abbrev all_ran : AllRan M limits s.starts p.threads 0
   all_ran = λ i f got t is. ran t f (subst (λ n. slice_get p.threads n ≡ Some f) (sym (is ∙ zero_right i)) got)
 
+  -- each thread was started by one of a smaller number
+  reached : (bound t : ℕ) (f : Fiber M) → t < bound → slice_get p.threads t ≡ Some f → IsReached logs t
+  reached zero t f less got = absurd (omega (arith, less))
+  reached (suc bound) t f less got = elim (s.roots t f got) [
+    | inl root ↦ subst (λ n. IsReached logs n) (sym root.zero_is) is_main
+    | inr parent ↦
+        let l = slice_get_within p.threads t f got in
+        let b = parent.below in
+        let above = got_within p.threads parent.number.0 (omega (arith, l, b)) in
+        let at : Has (of_thread parent.number.0 p.merge) parent.spawn = subst (λ n. Has (of_thread n p.merge) parent.spawn) parent.own (in_own_thread p.merge parent.spawn parent.stands) in
+        is_spawned parent.spawn (reached bound parent.number.0 above.0 (omega (arith, less, b)) above.1) (subst (λ l. Has l parent.spawn) (sym (entries_is parent.number.0)) at) parent.answers
+  ]
+
   abbrev runs_right : HasRuns M limits start logs
   runs_right = record {
     starts = s.starts;
     first = s.first;
+    reached = λ log h. let f = in_log log h in reached (suc log.number.0) log.number.0 f.0 (omega arith) f.1;
     runs = runs_of M limits s.starts p.threads 0 all_ran;
     joined = λ log e c h in_ is.
         let j = s.joins e c (in_merge log e h in_) is in
@@ -390,15 +433,6 @@ module _ (M : Machine) (O : Memory) (A : Allowed) (limits : Limits) (main : ℕ)
         let end_c : end_of logs c.0 ≡ n.why = ends_is c.0 ∙ ap (λ o. unwrap_or o log_end.NoMemory) n.is in
         ((log_of M c.0 g.0, has_log c.0 g.0 g.1, refl), λ v q z. n.other v q (sym end_c ∙ z));
   }
-
-  rising : RisesFrom 0 p.merge
-  rising = numbered_rises 0 p.merge s.numbered
-
-  merge_is : merged logs ≡ p.merge
-  merge_is =
-      let may : MayMerge logs = may_merge M p.merge rising p.threads 0 (λ i f got. ap (λ n. of_thread n p.merge) (zero_right i) ∙ s.parts i ∙ ap entries_in got) in
-      let m = merged_is_merge logs (numbers_rise M p.threads 0) may in
-      same_by_threads (merged logs) p.merge 0 0 m.rises rising (λ t. m.parts t ∙ entries_is t)
 
   run_right : MergesToRun M O A limits start (merged logs)
   run_right = subst (λ l. MergesToRun M O A limits start l) (sym merge_is) (record { numbered = s.numbered; within = kept.sums.within; run = s.run })
@@ -435,19 +469,17 @@ module _ (M : Machine) (O : Memory) (A : Allowed) (limits : Limits) (main : ℕ)
   beyond_is : beyond logs ≡ beyond_in M p.threads
   beyond_is = over_logs M (λ l. beyond_of l.«end») (λ f. beyond_at M f) (λ k f. refl) p.threads 0
 
-  counts_right : HasCounts M limits start logs p.words runs_right
+  counts_right : HasCounts M limits s.starts logs p.words
   counts_right =
       let c = kept.sums in
-      let make = asking M limits s.starts asks_make p.threads 0 all_ran in
-      let spawn = asking M limits s.starts asks_spawn p.threads 0 all_ran in
       let made = over_logs M alloc_numbers (λ f. allocs_at M f) (λ k f. refl) p.threads 0 in
       let spawned = over_logs M thread_numbers (λ f. threads_at M f) (λ k f. refl) p.threads 0 in
       record {
         stamps = c.stamps ∙ ap (λ l. length l + length (beyond_in M p.threads)) (sym merge_is) ∙ ap (λ l. length (merged logs) + length l) (sym beyond_is);
         above = subst (λ l. IsPermutation l (counting_from (limits.steps + 1) (length l))) (sym beyond_is) c.above;
         full = λ some. ap length merge_is ∙ c.full (subst (λ l. 0 < length l) beyond_is some);
-        allocs = subst (λ l. p.words.allocs ≤ count_by is_make l + ended_asking M asks_make limits s.starts logs (runs_of M limits s.starts p.threads 0 all_ran)) (sym merge_is) (subst (λ n. p.words.allocs ≤ count_by is_make p.merge + n) (sym make) c.allocs);
-        threads = subst (λ l. p.words.threads ≤ count_by is_spawn l + ended_asking M asks_spawn limits s.starts logs (runs_of M limits s.starts p.threads 0 all_ran)) (sym merge_is) (subst (λ n. p.words.threads ≤ count_by is_spawn p.merge + n) (sym spawn) c.threads);
+        allocs = (total (λ f. ended_at M asks_make f) p.threads, asking M limits s.starts asks_make p.threads 0 all_ran, subst (λ l. p.words.allocs ≤ count_by is_make l + total (λ f. ended_at M asks_make f) p.threads) (sym merge_is) c.allocs);
+        threads = (total (λ f. ended_at M asks_spawn f) p.threads, asking M limits s.starts asks_spawn p.threads 0 all_ran, subst (λ l. p.words.threads ≤ count_by is_spawn l + total (λ f. ended_at M asks_spawn f) p.threads) (sym merge_is) c.threads);
         made_within = All-from_recursion _ _ (subst (λ l. AllByRecursion (λ n. n ≤ p.words.allocs) l) (sym made) c.made.0);
         made_differ = subst (λ l. IsDistinct nat_eq l) (sym made) c.made.1;
         spawned_within = All-from_recursion _ _ (subst (λ l. AllByRecursion (λ n. n ≤ p.words.threads) l) (sym spawned) c.spawned.0);

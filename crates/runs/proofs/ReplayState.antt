@@ -1,6 +1,6 @@
 -- What stands after each pick of a replay.
 use Rattle.std.proofs.Common.{◌≡◌, ℕ, zero, suc, ◌+◌, ◌<◌, ◌≤◌, List, [], refl, sym, ◌∙◌, ap, subst, ◌≢◌, inl, inr, arith, length}
-use Rattle.std.specs.Prelude.{Some, None, slice_get, slice_set, unwrap_or, option_map, ◌⊎◌}
+use Rattle.std.specs.Prelude.{Some, None, slice_get, slice_set, unwrap_or, option_map, count_by, ◌⊎◌}
 use Rattle.std.specs.declared.option.Option.{Option}
 use Rattle.std.proofs.lemmas.Bool.Decides.{eqb_tells}
 use Rattle.bsan_ids.specs.declared.numbers.Counters.{Counters}
@@ -18,7 +18,7 @@ use Rattle.runs.specs.Machine.{Machine, Memory, Settles, SettlesWithin}
 use Rattle.runs.specs.Threads.{Feeds, EndsAs}
 use Rattle.runs.specs.Interleaving.{World, first_world, Allowed, Interleaves, last_world}
 use Rattle.runs.specs.Stamps.{Has}
-use Rattle.runs.specs.Right.{Numbered}
+use Rattle.runs.specs.Right.{Numbered, starts_thread}
 use Rattle.runs.specs.Replay.{Fiber, Progress, object_at}
 use Rattle.runs.proofs.Composition.{settles_without}
 use Rattle.runs.proofs.ErasedRun.{settles_more}
@@ -43,7 +43,7 @@ pub record HasParent (merge : List Entry) (t : ℕ) (parent : Option ThreadNo) (
   pub own : spawn.thread.0 ≡ number.0
   pub request : spawn.request ≡ request.Spawn function
   pub answers : child_of spawn ≡ Some t
-  pub above : 0 < t
+  pub below : number.0 < t
 
 pub record IsRoot (main t : ℕ) (parent : Option ThreadNo) (function : ℕ) : Type 0 where
   pub zero_is : t ≡ 0
@@ -80,7 +80,7 @@ pub record Stands (M : Machine) (O : Memory) (A : Allowed) (limits : Limits) (ma
   pub ended : (t : ℕ) (f : Fiber M) (c : ThreadNo) → slice_get p.threads t ≡ Some f → f.«end» ≡ Some (log_end.ChildEnded c) → NotReturned (end_in (slice_get p.threads c.0))
   pub joins : (e : Entry) (c : ThreadNo) → Has p.merge e → e.request ≡ request.Join c → Joined (end_in (slice_get p.threads c.0)) e
   pub spawns : (e : Entry) (f : ℕ) → Has p.merge e → e.request ≡ request.Spawn f → StartedOne (length p.threads) e
-  pub once : (x y : Entry) (c : ℕ) → Has p.merge x → Has p.merge y → child_of x ≡ Some c → child_of y ≡ Some c → x ≡ y
+  pub once : (c : ℕ) → count_by (starts_thread c) p.merge ≤ 1
   pub below : (x : Entry) (c : ℕ) → Has p.merge x → child_of x ≡ Some c → c < length p.threads
   pub has_main : 0 < length p.threads
   pub fewer : length p.threads ≤ p.words.threads + 1

@@ -20,7 +20,7 @@ use Rattle.runs.specs.Machine.{Machine, Memory}
 use Rattle.runs.specs.Threads.{EndsAs}
 use Rattle.runs.specs.Interleaving.{Allowed}
 use Rattle.runs.specs.Right.{beyond_of, counting_from, made_by, spawned_by_reply, alloc_limit_of, thread_limit_of, is_make, is_spawn, asks_make, asks_spawn}
-use Rattle.runs.specs.Replay.{Fiber, Progress, Steps, object_at, RepliesNext, EndsNext, drawn_by, drawn_by_end, new_fibers, picked}
+use Rattle.runs.specs.Replay.{Fiber, Progress, Steps, object_at, IsOwnEnd, RestsAs, RepliesNext, EndsNext, drawn_by, drawn_by_end, new_fibers, picked}
 use Rattle.runs.specs.ReplayLaw.{makes, MakesAlone}
 use Rattle.runs.proofs.FiberLists.{gained, gained_none, gained_last, total, total_set, total_more, Drawn, drawn_more, drawn_one, drawn_moved, counting_more, count_more, told_more, length_more}
 use Rattle.runs.proofs.ReplayState.{object_past}
@@ -285,27 +285,52 @@ pub none_beyond : (limit m b stamps : ℕ) → stamps ≡ m + b → stamps < lim
 none_beyond limit m zero stamps is less full = refl
 none_beyond limit m (suc b) stamps is less full = let m_is = full (omega arith) in absurd (omega (arith, is, less, m_is))
 
-pub sums_step : (M : Machine) (O : Memory) (A : Allowed) (limits : Limits) (p : Progress M O) (t : ℕ) (f : Fiber M) (now : M.State) (e : Entry)
+-- an end that comes of the thread's own state carries no number
+record CarriesNone (why : End) : Type 0 where
+  beyond : beyond_of why ≡ []
+  allocs : alloc_limit_of why ≡ []
+  threads : thread_limit_of why ≡ []
+
+own_carries_none : (why : End) → IsOwnEnd why → CarriesNone why
+own_carries_none (log_end.Returned v p) own = record { beyond = refl; allocs = refl; threads = refl }
+own_carries_none (log_end.Trapped (trap.AllocLimit d)) own = absurd own
+own_carries_none (log_end.Trapped (trap.ThreadLimit d)) own = absurd own
+own_carries_none (log_end.Trapped _) own = record { beyond = refl; allocs = refl; threads = refl }
+own_carries_none (log_end.StepLimit s) own = absurd own
+own_carries_none log_end.TurnLimit own = record { beyond = refl; allocs = refl; threads = refl }
+own_carries_none log_end.NoMemory own = record { beyond = refl; allocs = refl; threads = refl }
+own_carries_none (log_end.ChildEnded c) own = absurd own
+
+rest_carries_none : (M : Machine) (limits : Limits) (s : M.State) (over : Option End) → RestsAs M limits s over → CarriesNone (unwrap_or over log_end.NoMemory)
+rest_carries_none M limits s None rests = own_carries_none log_end.NoMemory tt
+rest_carries_none M limits s (Some why) rests = own_carries_none why rests.0
+
+-- a fiber that goes on, or ends of itself, has the numbers of one entry more
+rest_numbers : (k : Plain → List ℕ) (limit : End → List ℕ) (es : List Entry) (e : Entry) (o over : Option End) → limit log_end.NoMemory ≡ [] → o ≡ None → limit (unwrap_or over log_end.NoMemory) ≡ []
+    → told_in k (es ++ e ∷ []) ++ limit (unwrap_or over log_end.NoMemory) ≡ (told_in k es ++ limit (unwrap_or o log_end.NoMemory)) ++ k e.reply.plain
+rest_numbers k limit es e o over none is off =
+    ap (λ l. told_in k (es ++ e ∷ []) ++ l) (off ∙ sym none ∙ ap (λ x. limit (unwrap_or x log_end.NoMemory)) (sym is)) ∙ more_numbers k limit es e o none is
+
+pub sums_step : (M : Machine) (O : Memory) (A : Allowed) (limits : Limits) (p : Progress M O) (t : ℕ) (f : Fiber M) (now : M.State) (e : Entry) (over : Option End)
     → MakesAlone O → length p.objects ≤ p.words.allocs → Sums M O limits p → slice_get p.threads t ≡ Some f → f.«end» ≡ None
-    → p.words.stamps < limits.steps → RepliesNext M O A p e e.request → Sums M O limits (picked M O p t f (Steps now e))
-sums_step M O A limits p t f now e laws few s at opened less next =
-    let f' : Fiber M = record f { state = M.after now e; entries = f.entries ++ e ∷ [] } in
+    → p.words.stamps < limits.steps → RepliesNext M O A p e e.request → RestsAs M limits (M.after now e) over → Sums M O limits (picked M O p t f (Steps now e over))
+sums_step M O A limits p t f now e over laws few s at opened less next rests =
+    let f' : Fiber M = record f { state = M.after now e; entries = f.entries ++ e ∷ []; «end» = over } in
+    let carries = rest_carries_none M limits (M.after now e) over rests in
     let child = M.child now in
     let fs : List (Fiber M) = slice_set p.threads t f' in
     let gs : List (Fiber M) = fs ++ new_fibers M t child e.request in
-    let beyond : beyond_in M gs ≡ beyond_in M p.threads = new_none M (λ k. beyond_at M k) t child e.request fs (λ k. refl) ∙ gained_none (λ (k : Fiber M). beyond_at M k) p.threads t f f' at refl in
+    let beyond : beyond_in M gs ≡ beyond_in M p.threads = new_none M (λ k. beyond_at M k) t child e.request fs (λ k. refl) ∙ gained_none (λ (k : Fiber M). beyond_at M k) p.threads t f f' at (carries.beyond ∙ ap (λ o. beyond_of (unwrap_or o log_end.NoMemory)) (sym opened)) in
     let none : length (beyond_in M p.threads) ≡ 0 = none_beyond limits.steps (length p.merge) (length (beyond_in M p.threads)) p.words.stamps s.stamps less s.full in
     let long : length (p.merge ++ e ∷ []) ≡ length p.merge + 1 = length_more p.merge e in
     let gained_allocs : IsPermutation (made_by e.reply.plain ++ flat_map (λ (k : Fiber M). allocs_at M k) p.threads) (flat_map (λ (k : Fiber M). allocs_at M k) gs) = subst
     (λ l. IsPermutation (made_by e.reply.plain ++ flat_map (λ (k : Fiber M). allocs_at M k) p.threads) l) (sym (new_none M (λ k. allocs_at M k) t child e.request fs (λ k. refl)))
-    (gained (λ (k : Fiber M). allocs_at M k) p.threads t f f' (made_by e.reply.plain) at (more_numbers made_by alloc_limit_of f.entries e f.«end» refl opened)) in
+    (gained (λ (k : Fiber M). allocs_at M k) p.threads t f f' (made_by e.reply.plain) at (rest_numbers made_by alloc_limit_of f.entries e f.«end» over refl opened carries.allocs)) in
     let gained_threads : IsPermutation (spawned_by_reply e.reply.plain ++ flat_map (λ (k : Fiber M). threads_at M k) p.threads) (flat_map (λ (k : Fiber M). threads_at M k) gs) = subst
     (λ l. IsPermutation (spawned_by_reply e.reply.plain ++ flat_map (λ (k : Fiber M). threads_at M k) p.threads) l) (sym (new_none M (λ k. threads_at M k) t child e.request fs (λ k. refl)))
-    (gained (λ (k : Fiber M). threads_at M k) p.threads t f f' (spawned_by_reply e.reply.plain) at (more_numbers spawned_by_reply thread_limit_of f.entries e f.«end» refl opened)) in
+    (gained (λ (k : Fiber M). threads_at M k) p.threads t f f' (spawned_by_reply e.reply.plain) at (rest_numbers spawned_by_reply thread_limit_of f.entries e f.«end» over refl opened carries.threads)) in
     let none_make : ended_at M asks_make f ≡ 0 = ap (ended_by asks_make (M.ask f.state)) opened in
-    let none_make' : ended_at M asks_make f' ≡ 0 = ap (ended_by asks_make (M.ask (M.after now e))) opened in
     let none_spawn : ended_at M asks_spawn f ≡ 0 = ap (ended_by asks_spawn (M.ask f.state)) opened in
-    let none_spawn' : ended_at M asks_spawn f' ≡ 0 = ap (ended_by asks_spawn (M.ask (M.after now e))) opened in
     let total_make = total_set (λ (k : Fiber M). ended_at M asks_make k) p.threads t f f' at in
     let total_spawn = total_set (λ (k : Fiber M). ended_at M asks_spawn k) p.threads t f f' at in
     let new_make = new_total M (λ k. ended_at M asks_make k) t child e.request fs (λ k. refl) in
@@ -317,8 +342,8 @@ sums_step M O A limits p t f now e laws few s at opened less next =
       above = subst (λ l. IsPermutation l (counting_from (limits.steps + 1) (length l))) (sym beyond) s.above;
       full = λ some. (let c = ap length beyond in absurd (omega (arith, some, c, none)));
       within = (let a = s.stamps in omega (arith, a, none, long, less));
-      allocs = (let a = s.allocs in let d = drawn_made p.words e.request in omega (arith, a, d, count_make, none_make, none_make', total_make, new_make));
-      threads = (let a = s.threads in let d = drawn_threads p.words e.request in omega (arith, a, d, count_spawn, none_spawn, none_spawn', total_spawn, new_spawn));
+      allocs = (let a = s.allocs in let d = drawn_made p.words e.request in omega (arith, a, d, count_make, none_make, total_make, new_make));
+      threads = (let a = s.threads in let d = drawn_threads p.words e.request in omega (arith, a, d, count_spawn, none_spawn, total_spawn, new_spawn));
       made = drawn_next p.words.allocs _ (made_by e.reply.plain) _ _ (step_allocs M O A p laws few e e.request refl next) gained_allocs s.made;
       spawned = drawn_next p.words.threads _ (spawned_by_reply e.reply.plain) _ _ (step_threads M O A p laws few e e.request refl next) gained_threads s.spawned;
     }

@@ -1,6 +1,7 @@
 -- Logs with the promised order of stamps are tied.
 use Rattle.std.proofs.Common.{◌≡◌, ℕ, ◌+◌, ◌<◌, ◌≤◌, Bool, true, false, List, [], ◌∷◌, refl, sym, ◌∙◌, ap, subst, inl, inr, arith, length}
-use Rattle.std.specs.Prelude.{Some, if◌then◌else◌, ◌==◌, nat_lt}
+use Rattle.std.specs.Prelude.{Some, if◌then◌else◌, ◌==◌, nat_le}
+use Rattle.std.proofs.lemmas.Bool.{eq-eqb}
 use Rattle.std.proofs.lemmas.Bool.Decides.{eqb_tells}
 use Rattle.history.specs.declared.entry.Entry.{Entry}
 use Rattle.history.specs.declared.entry.Plain.TheVariants as plain
@@ -11,14 +12,16 @@ use Rattle.run_record.specs.declared.log.ThreadLog.{ThreadLog}
 use Rattle.bsan_ids.specs.declared.numbers.ThreadNo.{ThreadNo}
 use Rattle.history.specs.declared.entry.Verdict.TheVariants as verdict
 use Rattle.bsan_ids.specs.declared.numbers.Limits.{Limits}
-use Rattle.runs.specs.Parts.{child_of, spawned_of}
+use Rattle.runs.specs.Parts.{child_of, is_child, spawned_of}
 use Rattle.runs.specs.Machine.{Machine}
 use Rattle.runs.specs.Interleaving.{Allowed}
 use Rattle.runs.specs.Stamps.{Has, RisesFrom, SpawnedBefore, StandsAmong, IsTied}
-use Rattle.runs.specs.Merge.{inserted, merged_with, merged, entries_of}
-use Rattle.runs.specs.Right.{HasLog, HasThreads, HasRuns, end_of, Numbered}
+use Rattle.history.specs.Merge.{put_by_stamp}
+use Rattle.runs.specs.Merge.{merged_with, merged, entries_of}
+use Rattle.runs.specs.Right.{HasLog, HasThreads, HasRuns, end_of, Numbered, starts_thread}
 use Rattle.runs.specs.Tree.{HasStampOrder, IsEntryRight}
 use Rattle.runs.proofs.MergeLaws.{in_merged_with}
+use Rattle.runs.proofs.Counting.{one_passes}
 use Rattle.runs.proofs.Order.{child_here}
 
 pub spawned_inj : {a b : ThreadNo} → plain.Spawned a ≡ plain.Spawned b → a ≡ b
@@ -32,26 +35,26 @@ log_of_entry (l ∷ ls) x h = elim (in_merged_with l.entries (merged ls) x h) [
   | inr other ↦ let r = log_of_entry ls x other in (r.0, inr r.1, r.2)
 ]
 
-pub in_inserted_first : (x : Entry) (ys : List Entry) → Has (inserted x ys) x
+pub in_inserted_first : (x : Entry) (ys : List Entry) → Has (put_by_stamp x ys) x
 in_inserted_first x [] = inl refl
-in_inserted_first x (y ∷ ys) = by_test (in_inserted_first x ys) (nat_lt x.stamp.0 y.stamp.0)
+in_inserted_first x (y ∷ ys) = by_test (in_inserted_first x ys) (nat_le x.stamp.0 y.stamp.0)
   where
-    by_test : Has (inserted x ys) x → (b : Bool) → Has (if b then x ∷ y ∷ ys else y ∷ inserted x ys) x
+    by_test : Has (put_by_stamp x ys) x → (b : Bool) → Has (if b then x ∷ y ∷ ys else y ∷ put_by_stamp x ys) x
     by_test more true = inl refl
     by_test more false = inr more
 
-pub in_inserted_rest : (x : Entry) (ys : List Entry) (z : Entry) → Has ys z → Has (inserted x ys) z
+pub in_inserted_rest : (x : Entry) (ys : List Entry) (z : Entry) → Has ys z → Has (put_by_stamp x ys) z
 in_inserted_rest x [] z h = absurd h
-in_inserted_rest x (y ∷ ys) z h = by_test (in_inserted_rest x ys z) h (nat_lt x.stamp.0 y.stamp.0)
+in_inserted_rest x (y ∷ ys) z h = by_test (in_inserted_rest x ys z) h (nat_le x.stamp.0 y.stamp.0)
   where
-    by_test : (Has ys z → Has (inserted x ys) z) → Has (y ∷ ys) z → (b : Bool) → Has (if b then x ∷ y ∷ ys else y ∷ inserted x ys) z
+    by_test : (Has ys z → Has (put_by_stamp x ys) z) → Has (y ∷ ys) z → (b : Bool) → Has (if b then x ∷ y ∷ ys else y ∷ put_by_stamp x ys) z
     by_test more g true = inr g
     by_test more (inl g) false = inl g
     by_test more (inr g) false = inr (more g)
 
 pub in_merge_own : (xs ys : List Entry) (z : Entry) → Has xs z → Has (merged_with xs ys) z
 in_merge_own [] ys z h = absurd h
-in_merge_own (x ∷ xs) ys z (inl same) = subst (λ w. Has (inserted x (merged_with xs ys)) w) same (in_inserted_first x (merged_with xs ys))
+in_merge_own (x ∷ xs) ys z (inl same) = subst (λ w. Has (put_by_stamp x (merged_with xs ys)) w) same (in_inserted_first x (merged_with xs ys))
 in_merge_own (x ∷ xs) ys z (inr h) = in_inserted_rest x (merged_with xs ys) z (in_merge_own xs ys z h)
 
 pub in_merge_other : (xs ys : List Entry) (z : Entry) → Has ys z → Has (merged_with xs ys) z
@@ -70,6 +73,9 @@ log_of_part (l ∷ ls) t x h = by_test (log_of_part ls t x) (l.number.0 == t) h
     by_test : (Has (entries_of ls t) x → (k : ThreadLog) × HasLog ls k × Has k.entries x) → (b : Bool) → Has (if b then l.entries else entries_of ls t) x → (k : ThreadLog) × HasLog (l ∷ ls) k × Has k.entries x
     by_test more true g = (l, inl refl, g)
     by_test more false g = let r = more g in (r.0, inr r.1, r.2)
+
+pub starts_one : (x : Entry) (c : ℕ) → child_of x ≡ Some c → starts_thread c x ≡ true
+starts_one x c is = ap (λ o. is_child o c) is ∙ eq-eqb c c refl
 
 -- the entries of logs are their own
 abbrev pub OwnEntries : List ThreadLog → Type 0
@@ -105,10 +111,10 @@ stands_among M A limits main start logs a b order own log e g h (request.Spawn f
       λ s in_ child_s. elim (a.spawned child.0 child.1) [
         | inl zero_is ↦ absurd (omega (arith, right.1, number', zero_is))
         | inr sp ↦
-            let k = log_of_entry logs s in_ in
-            let same : s ≡ sp.spawn = sp.once k.0 s k.1 k.2 (child_s ∙ ap Some (sym number')) in
-            let own_one : e ≡ sp.spawn = sp.once log e g h (child_is ∙ ap Some (sym number')) in
-            ap (λ (z : Entry). z.stamp.0) (same ∙ sym own_one)
+            let one = sp.once in
+            let same : s ≡ e = one_passes (starts_thread child.0.number.0) (merged logs) s e (omega (arith, one)) in_ (in_merge logs log e g h)
+                (starts_one s child.0.number.0 (child_s ∙ ap Some (sym number'))) (starts_one e child.0.number.0 (child_is ∙ ap Some (sym number'))) in
+            ap (λ (z : Entry). z.stamp.0) same
       ],
       right.3,
     )

@@ -1,18 +1,15 @@
 -- All entries of the threads' logs in the order of their stamps.
-use Rattle.std.specs.Prelude.{◌≡◌, ◌≢◌, ℕ, ◌==◌, nat_lt, if◌then◌else◌, List, [], ◌∷◌}
+use Rattle.std.specs.Prelude.{◌≡◌, ◌≢◌, ℕ, ◌==◌, if◌then◌else◌, List, [], ◌∷◌}
 use Rattle.history.specs.declared.entry.Entry.{Entry}
+use Rattle.history.specs.Merge.{put_by_stamp}
 use Rattle.run_record.specs.declared.log.ThreadLog.{ThreadLog}
 use Rattle.runs.specs.Parts.{of_thread}
 use Rattle.runs.specs.Stamps.{Has, RisesFrom}
 
-abbrev pub inserted : Entry → List Entry → List Entry
-inserted x [] = x ∷ []
-inserted x (y ∷ ys) = if nat_lt x.stamp.0 y.stamp.0 then x ∷ y ∷ ys else y ∷ inserted x ys
-
 -- both lists, in stamp order where the second is
 abbrev pub merged_with : List Entry → List Entry → List Entry
 merged_with [] ys = ys
-merged_with (x ∷ xs) ys = inserted x (merged_with xs ys)
+merged_with (x ∷ xs) ys = put_by_stamp x (merged_with xs ys)
 
 abbrev pub merged : List ThreadLog → List Entry
 merged [] = []

@@ -2,7 +2,7 @@
 use Rattle.std.specs.Prelude.{◌≡◌}
 use Rattle.run_record.specs.declared.record.RunRecord.{RunRecord}
 use Rattle.run_record.specs.Merge as record_merge
-use Rattle.runs.specs.Merge.{merged, MayMerge}
+use Rattle.runs.specs.Merge.{merged}
 
 abbrev pub OneMerge : Type 0
-OneMerge = (kept : RunRecord) → MayMerge kept.threads → merged kept.threads ≡ record_merge.merged kept
+OneMerge = (kept : RunRecord) → merged kept.threads ≡ record_merge.merged kept

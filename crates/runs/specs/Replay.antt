@@ -19,7 +19,7 @@ use Rattle.history.specs.declared.trap.Trap.TheVariants as trap
 use Rattle.history.specs.declared.entry.Verdict.TheVariants as verdict
 use Rattle.runs.specs.Parts.{Answers}
 use Rattle.runs.specs.Machine.{Machine, Memory, MayGoOn, SettlesWithin}
-use Rattle.runs.specs.Threads.{AsksStep, AsksMake, AsksSpawn, EndsAs}
+use Rattle.runs.specs.Threads.{AsksStep, AsksMake, AsksSpawn, IsOwnTrap, EndsAs}
 use Rattle.runs.specs.Interleaving.{Allowed}
 
 -- a started thread, with its log so far
@@ -49,17 +49,28 @@ abbrev pub waits : (M : Machine) → (O : Memory) → Progress M O → Ask → B
 waits M O p (ask.Join c) = is_none (end_at M O p c.0)
 waits M O p _ = false
 
--- it hasn't ended, and doesn't wait; at its limit it doesn't wait, since its next instruction doesn't begin
-abbrev pub CanGoOn : (M : Machine) → (O : Memory) → Limits → Progress M O → ℕ → Type 0
-CanGoOn M O limits p t =
-    (f : Fiber M) × (slice_get p.threads t ≡ Some f) × (f.«end» ≡ None)
-    × ((waits M O p (M.ask f.state) ≡ true) × MayGoOn M limits.turns f.state → ⊥)
+-- it hasn't ended, and doesn't wait
+abbrev pub CanGoOn : (M : Machine) → (O : Memory) → Progress M O → ℕ → Type 0
+CanGoOn M O p t = (f : Fiber M) × (slice_get p.threads t ≡ Some f) × (f.«end» ≡ None) × (waits M O p (M.ask f.state) ≡ false)
 
--- what a pick of a thread comes to, from its state after its local turns
+-- an end that comes of the thread's own state, or of want of memory: nothing is drawn for it, and no other thread is asked
+abbrev pub IsOwnEnd : End → Type 0
+IsOwnEnd (log_end.Returned v p) = Unit {0}
+IsOwnEnd (log_end.Trapped t) = IsOwnTrap t
+IsOwnEnd log_end.TurnLimit = Unit {0}
+IsOwnEnd log_end.NoMemory = Unit {0}
+IsOwnEnd other = ⊥
+
+-- how a thread stands after a step: where its state is an end it has ended, at once with this part; else it goes on, if it finds memory
+abbrev pub RestsAs : (M : Machine) → Limits → M.State → Option End → Type 0
+RestsAs M limits s (Some why) = IsOwnEnd why × EndsAs M limits s why
+RestsAs M limits s None = (why : End) → IsOwnEnd why → EndsAs M limits s why → why ≡ log_end.NoMemory
+
+-- what a pick of a thread comes to, from its state after its local turns; a step comes with the end that it brings, if it brings one
 pub data Choice (M : Machine) : Type 0 where
   Waits : (now : M.State) → Choice M
   Ends : (now : M.State) (why : End) → Choice M
-  Steps : (now : M.State) (entry : Entry) → Choice M
+  Steps : (now : M.State) (entry : Entry) (over : Option End) → Choice M
 
 -- the numbers that an end carries are the next ones, which a Make or a Spawn drew
 abbrev pub DrawsNext : Counters → Ask → Trap → Type 0
@@ -96,9 +107,10 @@ RepliesNext M O A p e _ = (a : AllocNo) × (e.alloc ≡ Some a) × (e.reply ≡ 
 abbrev pub Chooses : (M : Machine) → (O : Memory) → Allowed → Limits → Progress M O → ℕ → Fiber M → Choice M → Type 0
 Chooses M O A limits p t f (Waits now) = SettlesWithin M limits.turns f.state now × MayGoOn M limits.turns now × (waits M O p (M.ask now) ≡ true)
 Chooses M O A limits p t f (Ends now why) = SettlesWithin M limits.turns f.state now × EndsAs M limits now why × EndsNext M O limits p (M.ask now) why
-Chooses M O A limits p t f (Steps now e) =
+Chooses M O A limits p t f (Steps now e over) =
     SettlesWithin M limits.turns f.state now × MayGoOn M limits.turns now × DrawsStamp M O limits p (M.ask now) × (p.words.stamps < limits.steps)
     × (e.thread.0 ≡ t) × (e.stamp.0 ≡ p.words.stamps + 1) × (e.site ≡ M.site now) × Answers (M.ask now) e × RepliesNext M O A p e e.request
+    × RestsAs M limits (M.after now e) over
 
 -- the number that a Make or a Spawn draws before its stamp
 abbrev pub drawn_number : Counters → Ask → Counters
@@ -121,7 +133,7 @@ drawn_by words (request.Make size place) = record { stamps = words.stamps + 1; a
 drawn_by words (request.Spawn f) = record { stamps = words.stamps + 1; allocs = words.allocs; threads = words.threads + 1 }
 drawn_by words r = drawn_stamp words
 
--- a new thread, where one was started
+-- a new thread, where one was started; it has made no part, and ends in a pick of its own at the earliest
 abbrev pub new_fibers : (M : Machine) → ℕ → M.State → Request → List (Fiber M)
 new_fibers M t child (request.Spawn f) = record { parent = Some (record { 0 = t }); function = f; state = child; entries = []; «end» = None } ∷ []
 new_fibers M t child r = []
@@ -146,8 +158,8 @@ objects_after O objects None e = objects
 abbrev pub picked : (M : Machine) → (O : Memory) → Progress M O → ℕ → Fiber M → Choice M → Progress M O
 picked M O p t f (Waits now) = record p { threads = slice_set p.threads t (record f { state = now }) }
 picked M O p t f (Ends now why) = record p { threads = slice_set p.threads t (record f { state = now; «end» = Some why }); words = drawn_by_end p.words (M.ask now) why }
-picked M O p t f (Steps now e) = record {
-  threads = slice_set p.threads t (record f { state = M.after now e; entries = f.entries ++ e ∷ [] }) ++ new_fibers M t (M.child now) e.request;
+picked M O p t f (Steps now e over) = record {
+  threads = slice_set p.threads t (record f { state = M.after now e; entries = f.entries ++ e ∷ []; «end» = over }) ++ new_fibers M t (M.child now) e.request;
   objects = objects_after O p.objects e.alloc e;
   merge = p.merge ++ e ∷ [];
   words = drawn_by p.words e.request;
@@ -156,8 +168,8 @@ picked M O p t f (Steps now e) = record {
 -- a pick of a thread that can go on; any other is passed over
 abbrev pub Picks : (M : Machine) → (O : Memory) → Allowed → Limits → Progress M O → ℕ → Progress M O → Type 0
 Picks M O A limits p t q =
-    ((CanGoOn M O limits p t → ⊥) × (q ≡ p))
-    ⊎ ((f : Fiber M) × (c : Choice M) × (slice_get p.threads t ≡ Some f) × CanGoOn M O limits p t × Chooses M O A limits p t f c × (q ≡ picked M O p t f c))
+    ((CanGoOn M O p t → ⊥) × (q ≡ p))
+    ⊎ ((f : Fiber M) × (c : Choice M) × (slice_get p.threads t ≡ Some f) × CanGoOn M O p t × Chooses M O A limits p t f c × (q ≡ picked M O p t f c))
 
 abbrev pub Plays : (M : Machine) → (O : Memory) → Allowed → Limits → Progress M O → List ℕ → Progress M O → Type 0
 Plays M O A limits p [] q = q ≡ p
@@ -167,7 +179,7 @@ Plays M O A limits p (t ∷ ts) q = (mid : Progress M O) × Picks M O A limits p
 abbrev pub PlaysLeast : (M : Machine) → (O : Memory) → Allowed → Limits → Progress M O → List ℕ → Progress M O → Type 0
 PlaysLeast M O A limits p [] q = q ≡ p
 PlaysLeast M O A limits p (t ∷ ts) q =
-    CanGoOn M O limits p t × ((u : ℕ) → u < t → CanGoOn M O limits p u → ⊥) × ((mid : Progress M O) × Picks M O A limits p t mid × PlaysLeast M O A limits mid ts q)
+    CanGoOn M O p t × ((u : ℕ) → u < t → CanGoOn M O p u → ⊥) × ((mid : Progress M O) × Picks M O A limits p t mid × PlaysLeast M O A limits mid ts q)
 
 -- the schedule is played, then the least thread that can go on, until all have ended
 pub record IsReplay (M : Machine) (O : Memory) (A : Allowed) (limits : Limits) (schedule : List ℕ) (first last : Progress M O) : Type 0 where

@@ -1,8 +1,7 @@
 -- When a record is right for a kind of thread and of memory.
-use Rattle.std.specs.Prelude.{◌≡◌, ℕ, zero, suc, ◌+◌, ◌<◌, ◌≤◌, ◌⊎◌, ◌==◌, ◌≢◌, Bool, if◌then◌else◌, List, [], ◌∷◌, ◌++◌, length, Some, None, All, nat_eq, count_by, true, false, IsPermutation, refl}
+use Rattle.std.specs.Prelude.{◌≡◌, ℕ, zero, suc, ◌+◌, ◌<◌, ◌≤◌, ◌⊎◌, ◌==◌, ◌≢◌, Bool, if◌then◌else◌, List, [], ◌∷◌, ◌++◌, length, Some, None, All, nat_eq, count_by, true, false, IsPermutation}
 use Rattle.std.specs.declared.option.Option.{Option}
 use Rattle.std.specs.List.{flat_map, IsDistinct}
-use Rattle.std.proofs.Common.{inl, inr}
 use Rattle.run_record.specs.declared.log.AllocLog.{AllocLog}
 use Rattle.history.specs.declared.ask.Ask.{Ask}
 use Rattle.history.specs.declared.ask.Ask.TheVariants as ask
@@ -22,9 +21,9 @@ use Rattle.run_record.specs.declared.log.ThreadLog.{ThreadLog}
 use Rattle.bsan_ids.specs.declared.numbers.ThreadNo.{ThreadNo}
 use Rattle.history.specs.declared.trap.Trap.{Trap}
 use Rattle.history.specs.declared.trap.Trap.TheVariants as trap
-use Rattle.runs.specs.Parts.{of_thread, of_alloc, child_of}
+use Rattle.runs.specs.Parts.{of_thread, of_alloc, child_of, is_child}
 use Rattle.runs.specs.Machine.{Machine, Memory, Settles}
-use Rattle.runs.specs.Threads.{IsThreadRun, AsksMake, AsksSpawn}
+use Rattle.runs.specs.Threads.{Feeds, IsThreadRun, AsksMake, AsksSpawn}
 use Rattle.runs.specs.Interleaving.{first_world, Allowed, Interleaves, Legal, last_world}
 use Rattle.runs.specs.Erasure.{erasure}
 use Rattle.runs.specs.Stamps.{Has, RisesFrom}
@@ -44,7 +43,11 @@ abbrev pub end_of : List ThreadLog → ℕ → End
 end_of [] t = log_end.NoMemory
 end_of (l ∷ ls) t = if l.number.0 == t then l.«end» else end_of ls t
 
--- a thread other than main has exactly one Spawn entry, in its parent's log and of its function
+-- the entry starts this thread
+abbrev pub starts_thread : ℕ → Entry → Bool
+starts_thread t e = is_child (child_of e) t
+
+-- a thread other than main has exactly one Spawn entry among all entries, in its parent's log and of its function
 pub record IsSpawnedOnce (logs : List ThreadLog) (log : ThreadLog) : Type 0 where
   pub parent : ThreadNo
   pub spawn : Entry
@@ -52,7 +55,7 @@ pub record IsSpawnedOnce (logs : List ThreadLog) (log : ThreadLog) : Type 0 wher
   pub stands : Has (entries_of logs parent.0) spawn
   pub request : spawn.request ≡ request.Spawn log.entry_function
   pub answers : child_of spawn ≡ Some log.number.0
-  pub once : (l : ThreadLog) (x : Entry) → HasLog logs l → Has l.entries x → child_of x ≡ Some log.number.0 → x ≡ spawn
+  pub once : count_by (starts_thread log.number.0) (merged logs) ≡ 1
 
 -- (a) the threads
 pub record HasThreads (main : ℕ) (logs : List ThreadLog) : Type 0 where
@@ -63,10 +66,17 @@ pub record HasThreads (main : ℕ) (logs : List ThreadLog) : Type 0 where
   pub children : (log : ThreadLog) (e : Entry) (f : ℕ) → HasLog logs log → Has log.entries e → e.request ≡ request.Spawn f
       → (child : ThreadLog) × HasLog logs child × (e.reply.plain ≡ plain.Spawned child.number)
 
--- (b) each log is a run of its thread from its first state; who is joined has returned that, and who ended its joiner has not
+-- a chain of Spawn entries leads from log 0 to the log of this thread
+pub data IsReached : List ThreadLog → ℕ → Type 0 where
+  is_main : {logs : List ThreadLog} → IsReached logs 0
+  is_spawned : {logs : List ThreadLog} {t c : ℕ} → (spawn : Entry) → IsReached logs t → Has (entries_of logs t) spawn → child_of spawn ≡ Some c → IsReached logs c
+
+-- (b) each log is a run of its thread, from the first state that a chain of Spawn entries gives it; who is joined has returned
+-- that, and who ended its joiner has not
 pub record HasRuns (M : Machine) (limits : Limits) (main : M.State) (logs : List ThreadLog) : Type 0 where
   pub starts : ℕ → M.State
   pub first : starts 0 ≡ main
+  pub reached : (log : ThreadLog) → HasLog logs log → IsReached logs log.number.0
   pub runs : (log : ThreadLog) → HasLog logs log → IsThreadRun M limits starts log
   pub joined : (log : ThreadLog) (e : Entry) (c : ThreadNo) → HasLog logs log → Has log.entries e → e.request ≡ request.Join c
       → (v : ℕ) × (e.reply.plain ≡ plain.Value v) × (end_of logs c.0 ≡ log_end.Returned v e.reply.carried) × ((child : ThreadLog) × HasLog logs child × (child.number ≡ c))
@@ -172,19 +182,29 @@ abbrev pub asks_spawn : Ask → Bool
 asks_spawn (ask.Spawn f) = true
 asks_spawn _ = false
 
--- how many logs ended while they asked such a thing
-abbrev pub ended_asking : (M : Machine) → (Ask → Bool) → (limits : Limits) → (starts : ℕ → M.State) → (logs : List ThreadLog)
-    → ((log : ThreadLog) → HasLog logs log → IsThreadRun M limits starts log) → ℕ
-ended_asking M asks limits starts [] runs = 0
-ended_asking M asks limits starts (l ∷ ls) runs =
-    (if asks (M.ask (runs l (inl refl)).last) then 1 else 0) + ended_asking M asks limits starts ls (λ log h. runs log (inr h))
+-- the thread of the log stands where it asks so, fed with all entries, at the log's count of instructions
+pub record StandsAsking (M : Machine) (asks : Ask → Bool) (limits : Limits) (starts : ℕ → M.State) (log : ThreadLog) : Type 0 where
+  pub last : M.State
+  pub feeds : Feeds M limits.turns starts (starts log.number.0) log.entries last
+  pub count : log.instructions ≡ M.count last
+  pub asking : asks (M.ask last) ≡ true
 
-pub record HasCounts (M : Machine) (limits : Limits) (main : M.State) (logs : List ThreadLog) (words : Counters) (own : HasRuns M limits main logs) : Type 0 where
+-- n of the logs are so, or more
+abbrev pub AtLeast : (ThreadLog → Type 0) → ℕ → List ThreadLog → Type 0
+AtLeast P zero logs = Unit {0}
+AtLeast P (suc n) [] = ⊥
+AtLeast P (suc n) (l ∷ ls) = (P l × AtLeast P n ls) ⊎ AtLeast P (suc n) ls
+
+-- at most so many numbers were drawn: one for each of these entries, and one for each log that ended while it asked so
+abbrev pub DrawnAtMost : (M : Machine) → (Ask → Bool) → (Entry → Bool) → Limits → (ℕ → M.State) → List ThreadLog → ℕ → Type 0
+DrawnAtMost M asks is_one limits starts logs drawn = (n : ℕ) × AtLeast (StandsAsking M asks limits starts) n logs × (drawn ≤ count_by is_one (merged logs) + n)
+
+pub record HasCounts (M : Machine) (limits : Limits) (starts : ℕ → M.State) (logs : List ThreadLog) (words : Counters) : Type 0 where
   pub stamps : words.stamps ≡ length (merged logs) + length (beyond logs)
   pub above : IsPermutation (beyond logs) (counting_from (limits.steps + 1) (length (beyond logs)))
   pub full : 0 < length (beyond logs) → length (merged logs) ≡ limits.steps
-  pub allocs : words.allocs ≤ count_by is_make (merged logs) + ended_asking M asks_make limits own.starts logs own.runs
-  pub threads : words.threads ≤ count_by is_spawn (merged logs) + ended_asking M asks_spawn limits own.starts logs own.runs
+  pub allocs : DrawnAtMost M asks_make is_make limits starts logs words.allocs
+  pub threads : DrawnAtMost M asks_spawn is_spawn limits starts logs words.threads
   pub made_within : All (λ n. n ≤ words.allocs) (flat_map alloc_numbers logs)
   pub made_differ : IsDistinct nat_eq (flat_map alloc_numbers logs)
   pub spawned_within : All (λ n. n ≤ words.threads) (flat_map thread_numbers logs)
@@ -196,4 +216,4 @@ pub record IsRight (M : Machine) (O : Memory) (A : Allowed) (limits : Limits) (m
   pub runs : HasRuns M limits start kept.threads
   pub run : MergesToRun M O A limits start (merged kept.threads)
   pub histories : HasHistories O limits kept.threads kept.allocs
-  pub counts : HasCounts M limits start kept.threads kept.words runs
+  pub counts : HasCounts M limits runs.starts kept.threads kept.words

@@ -13,6 +13,7 @@ use Rattle.history.specs.declared.ask.Ask.{Ask}
 use Rattle.history.specs.declared.ask.Ask.TheVariants as ask
 use Rattle.runs.specs.Parts.{Answers, child_of}
 use Rattle.runs.specs.Machine.{Machine, MayGoOn, SettlesWithin}
+use Rattle.runs.specs.Stamps.{RisesFrom}
 
 -- the first state of the child that is started, if one is
 abbrev pub StartsAs : (M : Machine) → (ℕ → M.State) → Option ℕ → M.State → Type 0
@@ -47,6 +48,12 @@ abbrev pub AsksSpawn : Ask → Type 0
 AsksSpawn (ask.Spawn f) = Unit {0}
 AsksSpawn _ = ⊥
 
+-- a trap of an instruction or of an allocation, not of a number that was drawn
+abbrev pub IsOwnTrap : Trap → Type 0
+IsOwnTrap (trap.AllocLimit d) = ⊥
+IsOwnTrap (trap.ThreadLimit d) = ⊥
+IsOwnTrap other = Unit {0}
+
 -- a number was drawn that is above its limit
 abbrev pub DrewBeyond : Limits → Ask → Trap → Type 0
 DrewBeyond limits a (trap.AllocLimit d) = AsksMake a × (limits.allocs < d)
@@ -65,10 +72,11 @@ EndsAs M limits s log_end.TurnLimit = (M.begins s ≡ true) × (M.count s ≡ li
 EndsAs M limits s log_end.NoMemory = Unit {0}
 EndsAs M limits s (log_end.ChildEnded c) = (M.ask s ≡ ask.Join c) × MayGoOn M limits.turns s
 
--- the log is a run of its thread, from the thread's first state
+-- the log is a run of its thread, from the thread's first state, in the order in which it made its steps
 pub record IsThreadRun (M : Machine) (limits : Limits) (starts : ℕ → M.State) (log : ThreadLog) : Type 0 where
   pub last : M.State
   pub own : All (λ e. e.thread ≡ log.number) log.entries
+  pub rises : RisesFrom 0 log.entries
   pub feeds : Feeds M limits.turns starts (starts log.number.0) log.entries last
   pub «end» : EndsAs M limits last log.«end»
   pub count : log.instructions ≡ M.count last

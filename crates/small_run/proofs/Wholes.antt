@@ -1,6 +1,6 @@
 -- The logs of a thread that has ended are a right record, of which a report can be made.
 use Rattle.std.proofs.Common.{◌≡◌, ◌≢◌, ℕ, zero, suc, ◌+◌, ◌<◌, ◌≤◌, Bool, true, false, List, [], ◌∷◌, ◌++◌, Option, Some, None, IsTrue, refl, sym, ap, ◌∙◌, subst, arith, inl, inr, length, map, nat_eq, count_by}
-use Rattle.std.specs.Prelude.{if◌then◌else◌, ◌⊎◌, All, nat_lt, IsPermutation, IsSome}
+use Rattle.std.specs.Prelude.{if◌then◌else◌, ◌⊎◌, All, nat_le, IsPermutation, IsSome}
 use Rattle.std.specs.List.{flat_map, IsDistinct, AllByRecursion}
 use Rattle.std.proofs.lemmas.Bool.{cases_lt}
 use Rattle.std.proofs.lemmas.Bool.Decides.{eqb_tells, nat_tests}
@@ -16,6 +16,7 @@ use Rattle.history.specs.declared.entry.Plain.{Plain}
 use Rattle.history.specs.declared.entry.Request.{Request}
 use Rattle.history.specs.declared.entry.Request.TheVariants as request
 use Rattle.history.specs.Histories.{fits}
+use Rattle.history.specs.Merge.{put_by_stamp}
 use Rattle.history.specs.Objects.{unmade}
 use Rattle.ir_ast.specs.declared.program.Program.{Program}
 use Rattle.report.specs.Report.{IsReportable}
@@ -27,7 +28,7 @@ use Rattle.run_record.specs.declared.log.ThreadLog.{ThreadLog}
 use Rattle.run_record.specs.Merge.{stamp_of, violates}
 use Rattle.runs.specs.Parts.{of_thread, of_alloc, names, child_of, spawned_by}
 use Rattle.runs.specs.Stamps.{Has, RisesFrom}
-use Rattle.runs.specs.Merge.{merged, merged_with, inserted, IsOwn, MayMerge, no_logs, one_more, IsMerge}
+use Rattle.runs.specs.Merge.{merged, merged_with, IsOwn, MayMerge, no_logs, one_more, IsMerge}
 use Rattle.runs.specs.Interleaving.{Legal}
 use Rattle.runs.specs.Objects.{objects}
 use Rattle.runs.specs.Right.{HasLog, HasThreads, HasRuns, HasHistories, HasCounts, Numbered, AllocsRiseFrom, history_of, counting_from, made_by, spawned_by_reply, alloc_limit_of, thread_limit_of, alloc_numbers, thread_numbers, beyond, beyond_of, is_make}
@@ -58,16 +59,16 @@ numbered_within n [] x h at = absurd at
 numbered_within n (e ∷ es) x h (inl is) = let s : e.stamp.0 ≡ n = h.0 in let same : e.stamp.0 ≡ x.stamp.0 = ap (λ (y : Entry). y.stamp.0) is in omega arith
 numbered_within n (e ∷ es) x h (inr at) = omega (arith, numbered_within (n + 1) es x h.1 at)
 
-put_first : (n : ℕ) (e : Entry) (es : List Entry) → RisesFrom n (e ∷ es) → inserted e es ≡ e ∷ es
+put_first : (n : ℕ) (e : Entry) (es : List Entry) → RisesFrom n (e ∷ es) → put_by_stamp e es ≡ e ∷ es
 put_first n e [] h = refl
 put_first n e (x ∷ xs) h =
     let less : e.stamp.0 < x.stamp.0 = h.1.0 in
-    let test : nat_lt e.stamp.0 x.stamp.0 ≡ true = grind (arith, nat_tests) in
+    let test : nat_le e.stamp.0 x.stamp.0 ≡ true = grind (arith, nat_tests) in
     rw test refl
 
 merged_alone : (n : ℕ) (es : List Entry) → RisesFrom n es → merged_with es [] ≡ es
 merged_alone n [] h = refl
-merged_alone n (e ∷ es) h = ap (inserted e) (merged_alone e.stamp.0 es h.1) ∙ put_first n e es h
+merged_alone n (e ∷ es) h = ap (put_by_stamp e) (merged_alone e.stamp.0 es h.1) ∙ put_first n e es h
 
 All_from_has : (P : Entry → Type 0) (es : List Entry) → ((x : Entry) → Has es x → P x) → All P es
 All_from_has P es h = All-from_recursion P es (by es h) where

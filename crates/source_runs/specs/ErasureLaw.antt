@@ -14,7 +14,6 @@ use Rattle.runs.specs.PlainObjects.{plain_objects}
 use Rattle.runs.specs.Threads.{AsksMake, AsksSpawn}
 use Rattle.source_sem.specs.Source.{Setting, Source, source, source_ask, source_start, plain_setting}
 use Rattle.run_record.specs.declared.record.RunRecord.{RunRecord}
-use Rattle.runs.specs.Merge.{MayMerge}
 use Rattle.runs.specs.Right.{IsRight, ErasesToPlainRun}
 use Rattle.source_runs.specs.Setting.{allowed, main_of, main_start}
 
@@ -44,9 +43,9 @@ ErasureIsARun =
     ((last_world (source x) objects (allowed limits hosts) (first_world (source x) objects (source_start x k [])) es run).threads t)
     ((last_world (source (plain_setting x)) plain_objects (allowed limits hosts) (first_world (source (plain_setting x)) plain_objects (source_start (plain_setting x) k [])) (erasure es) plain).threads t))
 
--- a right record whose logs may merge erases to a run of the plain program in which each thread ends alike
+-- a record that is right in all else erases to a run of the plain program in which each thread ends alike
 abbrev pub RightRecordsErase : Type 0
 RightRecordsErase =
-    (x : Setting) (limits : Limits) (hosts : HostTable) (kept : RunRecord) → MayMerge kept.threads
+    (x : Setting) (limits : Limits) (hosts : HostTable) (kept : RunRecord)
     → IsRight (source x) objects (allowed limits hosts) limits (main_of x.program) (main_start x) kept
     → ErasesToPlainRun (source (plain_setting x)) plain_objects (allowed limits hosts) (main_start (plain_setting x)) kept.threads
