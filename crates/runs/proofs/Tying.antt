@@ -93,7 +93,7 @@ spawned_earlier main logs a log e g above order = elim (a.spawned log g) [
 ]
 
 pub stands_among : (M : Machine) (A : Allowed) (limits : Limits) (main : ℕ) (start : M.State) (logs : List ThreadLog)
-    → (a : HasThreads main logs) → HasRuns M limits start logs → HasStampOrder 0 logs → OwnEntries logs
+    → (a : HasThreads main logs) → HasRuns M limits start logs → HasStampOrder logs → OwnEntries logs
     → (log : ThreadLog) (e : Entry) → HasLog logs log → Has log.entries e
     → (r : Request) → e.request ≡ r → IsEntryRight A e r → StandsAmong A (end_of logs) (merged logs) e r
 stands_among M A limits main start logs a b order own log e g h (request.Make size place) is right = right
@@ -143,7 +143,7 @@ stands_among M A limits main start logs a b order own log e g h (request.Join c)
 stands_among M A limits main start logs a b order own log e g h _ is right = right
 
 pub tied_logs : (M : Machine) (A : Allowed) (limits : Limits) (main : ℕ) (start : M.State) (logs : List ThreadLog)
-    → (a : HasThreads main logs) → HasRuns M limits start logs → HasStampOrder 0 logs → OwnEntries logs
+    → (a : HasThreads main logs) → HasRuns M limits start logs → HasStampOrder logs → OwnEntries logs
     → RisesFrom 0 (merged logs)
     → ((log : ThreadLog) (e : Entry) → HasLog logs log → Has log.entries e → IsEntryRight A e e.request)
     → IsTied A (end_of logs) (merged logs)

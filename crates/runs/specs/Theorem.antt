@@ -29,7 +29,7 @@ pub record HasPromises (M : Machine) (O : Memory) (A : Allowed) (limits : Limits
   pub threads : HasThreads main logs
   pub runs : HasRuns M limits start logs
   pub histories : HasHistories O limits logs allocs
-  pub order : HasStampOrder 0 logs
+  pub order : HasStampOrder logs
   pub merges : MayMerge logs
   pub entries : (log : ThreadLog) (e : Entry) → HasLog logs log → Has log.entries e → IsEntryRight A e e.request
   pub stamps : (e : Entry) → Has (merged logs) e → e.stamp.0 ≤ length (merged logs)

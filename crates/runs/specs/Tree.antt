@@ -40,9 +40,8 @@ pub record IsTree (M : Machine) (limits : Limits) (number : ThreadNo) (parent : 
   pub ended : (log : ThreadLog) (c : ThreadNo) → HasLog logs log → log.«end» ≡ log_end.ChildEnded c
       → ((child : ThreadLog) × HasLog logs child × (child.number ≡ c)) × ((v : ℕ) (p : Option Prov) → end_of logs c.0 ≢ log_end.Returned v p)
 
--- stamps rise along each log; a child's stamps are above its Spawn entry's, and below each join's, as is the Spawn entry's
-pub record HasStampOrder (seen : ℕ) (logs : List ThreadLog) : Type 0 where
-  pub rises : (log : ThreadLog) → HasLog logs log → RisesFrom seen log.entries
+-- a child's stamps are above its Spawn entry's, and below each join's, as is the Spawn entry's
+pub record HasStampOrder (logs : List ThreadLog) : Type 0 where
   pub after_spawn : (a b : ThreadLog) (s x : Entry) → HasLog logs a → HasLog logs b → Has a.entries s → Has b.entries x
       → child_of s ≡ Some b.number.0 → s.stamp.0 < x.stamp.0
   pub before_join : (a b : ThreadLog) (j x : Entry) → HasLog logs a → HasLog logs b → Has a.entries j → Has b.entries x

@@ -31,7 +31,7 @@ use Rattle.runs.specs.Stamps.{Has, RisesFrom}
 use Rattle.runs.specs.Merge.{merged, merged_with, IsOwn, MayMerge, no_logs, one_more, IsMerge}
 use Rattle.runs.specs.Interleaving.{Legal}
 use Rattle.runs.specs.Objects.{objects}
-use Rattle.runs.specs.Right.{HasLog, HasThreads, HasRuns, HasHistories, HasCounts, Numbered, AllocsRiseFrom, history_of, counting_from, made_by, spawned_by_reply, alloc_limit_of, thread_limit_of, alloc_numbers, thread_numbers, beyond, beyond_of, is_make}
+use Rattle.runs.specs.Right.{HasLog, IsReached, is_main, HasThreads, HasRuns, HasHistories, HasCounts, Numbered, AllocsRiseFrom, history_of, counting_from, made_by, spawned_by_reply, alloc_limit_of, thread_limit_of, alloc_numbers, thread_numbers, beyond, beyond_of, is_make}
 use Rattle.runs.specs.Threads.{IsThreadRun}
 use Rattle.runs.specs.Tree.{IsEntryRight}
 use Rattle.runs.specs.Theorem.{HasPromises}
@@ -342,11 +342,14 @@ thread_run program es allocs site e run = by e run.ends where
   own : All (λ (x : Entry). x.thread ≡ record { 0 = 0 }) es
   own = All_from_has (λ (x : Entry). x.thread ≡ record { 0 = 0 }) es (λ x at. ap (λ (n : ℕ). let t : ThreadNo = record { 0 = n } in t) (run.kept.own x at).thread)
 
+  rises : RisesFrom 0 es
+  rises = numbered_rises 0 es run.kept.numbered
+
   by : (f : End) → EndsSo program es site f → IsThreadRun (source (setting program)) default_limits (λ t. main_start program) (main_log es site f)
   by (log_end.Returned v p) h =
-      record { last = ended (end.Returned v p) site; own = own; feeds = h (λ t. main_start program); «end» = (refl, λ b. absurd (cc)); count = refl; site = refl }
+      record { last = ended (end.Returned v p) site; own = own; rises = rises; feeds = h (λ t. main_start program); «end» = (refl, λ b. absurd (cc)); count = refl; site = refl }
   by (log_end.Trapped t) h =
-      record { last = ended (end.Trapped t) site; own = own; feeds = h.0 (λ u. main_start program); «end» = (inl refl, λ b. absurd (cc)); count = refl; site = refl }
+      record { last = ended (end.Trapped t) site; own = own; rises = rises; feeds = h.0 (λ u. main_start program); «end» = (inl refl, λ b. absurd (cc)); count = refl; site = refl }
   by (log_end.StepLimit s) h = absurd h
   by log_end.TurnLimit h = absurd h
   by log_end.NoMemory h = absurd h
@@ -373,6 +376,7 @@ has_runs program es allocs site e run =
     record {
       starts = λ t. main_start program;
       first = refl;
+      reached = λ log at. subst (λ (l : ThreadLog). IsReached (main ∷ []) l.number.0) (only main log at) is_main;
       runs = λ log at. subst (λ (l : ThreadLog). IsThreadRun (source (setting program)) default_limits (λ t. main_start program) l) (only main log at) (thread_run program es allocs site e run);
       joined = λ log x c at has is. absurd (no_join x c (own_of program es allocs site e run log x at has).fitting is);
       ended = λ log c at is. absurd (no_child_ended program es site e c run.ends (ap (λ (l : ThreadLog). l.«end») (only main log at) ∙ is));
@@ -399,7 +403,6 @@ has_promises program es allocs site e run may merge same =
       runs = has_runs program es allocs site e run;
       histories = has_histories program es allocs site e run merge;
       order = record {
-        rises = λ log at. subst (λ (l : ThreadLog). RisesFrom 0 l.entries) (only main log at) merge.rises;
         after_spawn = λ a b s x ina inb hs hx is.
             absurd (let none : child_of s ≡ None = no_child s.request s.reply.plain (own_of program es allocs site e run a s ina hs).fitting in
             let no : None ≡ Some b.number.0 = sym none ∙ is in cc);
@@ -441,9 +444,8 @@ ends_draw_none program es site (log_end.ChildEnded c) h = absurd h
 
 has_counts : (program : Program) (es : List Entry) (allocs : List AllocLog) (site : ℕ) (e : End) (words : Counters) → (run : HasRun program es allocs site e)
     → merged (main_log es site e ∷ []) ≡ es → words ≡ record { stamps = length es; allocs = length allocs; threads = 0 }
-    → (own : HasRuns (source (setting program)) default_limits (main_start program) (main_log es site e ∷ []))
-    → HasCounts (source (setting program)) default_limits (main_start program) (main_log es site e ∷ []) words own
-has_counts program es allocs site e words run same are own =
+    → HasCounts (source (setting program)) default_limits (λ t. main_start program) (main_log es site e ∷ []) words
+has_counts program es allocs site e words run same are =
     let main : ThreadLog = main_log es site e in
     let none = ends_draw_none program es site e run.ends in
     let size : length (merged (main ∷ [])) ≡ length es = ap (length {A = Entry}) same in
@@ -463,8 +465,8 @@ has_counts program es allocs site e words run same are own =
       stamps = omega (arith, stamps, size, zero_);
       above = subst (λ (l : List ℕ). IsPermutation l (counting_from 1000001 (length l))) (sym nothing) (IsPermutation-refl []);
       full = λ more. absurd (omega (arith, more, zero_));
-      allocs = omega (arith, drawn, makes, run.kept.makes);
-      threads = omega (arith, threads);
+      allocs = (0, tt, omega (arith, drawn, makes, run.kept.makes));
+      threads = (0, tt, omega (arith, threads));
       made_within = subst (λ (l : List ℕ). All (λ n. n ≤ words.allocs) l) (sym made) (All-from_recursion (λ n. n ≤ words.allocs) (counting_from 1 (length allocs)) (counted_within 1 (length allocs) words.allocs (omega (arith, drawn))));
       made_differ = subst (IsDistinct nat_eq) (sym made) (counted_differ 1 (length allocs));
       spawned_within = subst (λ (l : List ℕ). All (λ n. n ≤ words.threads) l) (sym started) (All-from_recursion (λ n. n ≤ words.threads) [] tt);
@@ -472,6 +474,7 @@ has_counts program es allocs site e words run same are own =
     }
 
 pub run_is_right : (program : Program) (es : List Entry) (allocs : List AllocLog) (site : ℕ) (e : End) → HasRun program es allocs site e → IsRightFor program (record_of es allocs site e)
+unfolding has_runs
 run_is_right program es allocs site e run =
     let main : ThreadLog = main_log es site e in
     let rises : RisesFrom 0 es = numbered_rises 0 es run.kept.numbered in
@@ -485,7 +488,7 @@ run_is_right program es allocs site e run =
       runs = runs;
       run = promises_make_one_run (source (setting program)) objects no_host default_limits 0 (main_start program) (main ∷ []) allocs (has_promises program es allocs site e run may merge same);
       histories = has_histories program es allocs site e run merge;
-      counts = has_counts program es allocs site e (record { stamps = length es; allocs = length allocs; threads = 0 }) run same refl runs;
+      counts = has_counts program es allocs site e (record { stamps = length es; allocs = length allocs; threads = 0 }) run same refl;
     }
 
 described_in : (b n : ℕ) (es : List Entry) (logs : List AllocLog) → ((x : Entry) → Has es x → IsOwnEntry n x) → ArePartsFrom b es logs

@@ -1,6 +1,6 @@
 -- The record of two threads keeps every promise, and each promise is needed.
 use Rattle.std.proofs.Common.{◌≡◌, ℕ, zero, suc, ◌+◌, ◌<◌, ◌≤◌, Bool, true, false, List, [], ◌∷◌, refl, sym, ◌∙◌, ap, subst, ◌≢◌, inl, inr, arith, length}
-use Rattle.std.specs.Prelude.{Some, None, ◌==◌, ◌⊎◌}
+use Rattle.std.specs.Prelude.{Some, None, count_by, ◌==◌, ◌⊎◌}
 use Rattle.std.specs.List.{IsDistinct}
 use Rattle.std.proofs.lemmas.Bool.{true≢false}
 use Rattle.std.proofs.lemmas.Bool.Decides.{eqb_tells}
@@ -30,9 +30,10 @@ use Rattle.runs.specs.Interleaving.{Event, HasReturned, Legal, World, first_worl
 use Rattle.runs.specs.Merge.{merged, MayMerge, no_logs, one_more, entries_of}
 use Rattle.runs.specs.Objects.{objects}
 use Rattle.runs.specs.Stamps.{Has, RisesFrom}
-use Rattle.runs.specs.Right.{HasLog, HasThreads, HasRuns, HasHistories, HasCounts, IsSpawnedOnce, AllocsRiseFrom, history_of, end_of}
+use Rattle.runs.specs.Right.{HasLog, HasThreads, HasRuns, HasHistories, HasCounts, IsSpawnedOnce, starts_thread, IsReached, is_main, is_spawned, AllocsRiseFrom, history_of, end_of}
 use Rattle.runs.specs.Tree.{IsEntryRight}
 use Rattle.runs.proofs.Assembly.{promises_make_one_run}
+use Rattle.runs.proofs.Counting.{one_if, weigh_with}
 use Rattle.runs.proofs.MergeLaws.{in_merged_with}
 use Rattle.runs.proofs.Order.{none_is_some}
 use Rattle.source_sem.specs.Source.{Source, source, source_ask, source_turn, source_answer, source_child}
@@ -86,6 +87,22 @@ by_thread P zero_ one other t = elim (eqb_tells 0 t) [
   | inr miss ↦ elim (eqb_tells 1 t) [ inl hit ↦ subst P hit.1 one | inr off ↦ other t miss.0 off.0 ]
 ]
 
+-- which stamps are above which -----------------------------------------------------
+
+record Stamped (t : Told) : Type 0 where
+  after_makes : 2 < t.spawn
+  stored : t.spawn < t.store
+  joined : t.store < t.join
+  made : 1 < t.child
+  last : t.join ≤ 6
+  last_child : t.child ≤ 6
+
+main_rises : (t : Told) → Stamped t → RisesFrom 0 (main_log t).entries
+main_rises t s = (omega arith, (omega arith, (s.after_makes, (s.stored, (s.joined, tt)))))
+
+child_rises : (t : Told) → Stamped t → RisesFrom 0 (child_log t).entries
+child_rises t s = (let h = s.made in omega (arith, h), tt)
+
 -- the threads -----------------------------------------------------------------------
 
 abbrev m1 : Source
@@ -119,10 +136,11 @@ starts (suc n) = c0
 below : (n : ℕ) → n < 1000 → n < limits.turns
 below n h = h
 
-main_run : (t : Told) → IsThreadRun (source x) limits starts (main_log t)
-main_run t = record {
+main_run : (t : Told) → Stamped t → IsThreadRun (source x) limits starts (main_log t)
+main_run t s = record {
   last = m5 t;
   own = All-from_recursion (λ (e : Entry). e.thread ≡ (main_log t).number) (main_log t).entries (refl, (refl, (refl, (refl, (refl, tt)))));
+  rises = main_rises t s;
   feeds = (
     record { now = start; settles = (0, refl); may = λ h. below 0 (omega arith); site = refl; asks = refl; fits = (refl, refl); child = tt },
     (
@@ -144,10 +162,11 @@ main_run t = record {
   site = refl;
 }
 
-child_run : (t : Told) → IsThreadRun (source x) limits starts (child_log t)
-child_run t = record {
+child_run : (t : Told) → Stamped t → IsThreadRun (source x) limits starts (child_log t)
+child_run t s = record {
   last = c2 t;
   own = All-from_recursion (λ (e : Entry). e.thread ≡ (child_log t).number) (child_log t).entries (refl, tt);
+  rises = child_rises t s;
   feeds = (
     record { now = c0; settles = (0, refl); may = λ h. below 0 (omega arith); site = refl; asks = (refl, refl, tt); fits = inl tt; child = tt },
     (1, (refl, λ h. below 1 (omega arith), refl)),
@@ -156,6 +175,12 @@ child_run t = record {
   count = refl;
   site = refl;
 }
+
+started_once : (t : Told) → count_by (starts_thread 1) (merged (thread_logs t)) ≡ 1
+started_once t =
+    let main : count_by (starts_thread 1) (main_log t).entries ≡ 1 = refl in
+    let child : count_by (starts_thread 1) (store_x t ∷ []) ≡ 0 = refl in
+    omega (arith, main, child, weigh_with (one_if (starts_thread 1)) (main_log t).entries (store_x t ∷ []))
 
 threads : (t : Told) → HasThreads 1 (thread_logs t)
 threads t = record {
@@ -170,10 +195,7 @@ threads t = record {
         stands = inr (inr (inl refl));
         request = refl;
         answers = refl;
-        once = λ l y in_l in_y is. for_logs t (λ l. Has l.entries y → y ≡ spawn_f t)
-            (λ h. for_main t (λ z. child_of z ≡ Some 1 → z ≡ spawn_f t) (λ k. absurd (none_is_some 1 k)) (λ k. absurd (none_is_some 1 k)) (λ k. refl) (λ k. absurd (none_is_some 1 k)) (λ k. absurd (none_is_some 1 k)) y h is)
-            (λ h. for_child t (λ z. child_of z ≡ Some 1 → z ≡ spawn_f t) (λ k. absurd (none_is_some 1 k)) y h is)
-            l in_l in_y;
+        once = started_once t;
       }));
   children = λ log e f in_log in_e is. for_logs t (λ l. Has l.entries e → (child : ThreadLog) × HasLog (thread_logs t) child × (e.reply.plain ≡ plain.Spawned child.number))
       (λ h. for_main t (λ z. z.request ≡ request.Spawn f → (child : ThreadLog) × HasLog (thread_logs t) child × (z.reply.plain ≡ plain.Spawned child.number))
@@ -227,16 +249,8 @@ parts_are t a u above le = by_alloc (λ n. of_thread u (history_of (alloc_logs t
 
 -- the order of stamps -----------------------------------------------------------------
 
-record Stamped (t : Told) : Type 0 where
-  after_makes : 2 < t.spawn
-  stored : t.spawn < t.store
-  joined : t.store < t.join
-  made : 1 < t.child
-  last : t.join ≤ 6
-  last_child : t.child ≤ 6
-
 rises : (t : Told) → Stamped t → (log : ThreadLog) → HasLog (thread_logs t) log → RisesFrom 0 log.entries
-rises t s = for_logs t (λ log. RisesFrom 0 log.entries) (omega arith, (omega arith, (s.after_makes, (s.stored, (s.joined, tt))))) (let h = s.made in omega (arith, h), tt)
+rises t s = for_logs t (λ log. RisesFrom 0 log.entries) (main_rises t s) (child_rises t s)
 
 after_spawn : (t : Told) → t.spawn < t.child → AfterSpawn (thread_logs t)
 after_spawn t less a b s y in_a in_b in_s in_y is =
@@ -362,7 +376,7 @@ breaks broken t allocs s six rise rising lawful joined parts after before merges
   threads = threads t;
   starts = starts;
   first = refl;
-  runs = for_logs t (λ log. IsThreadRun (source x) limits starts log) (main_run t) (child_run t);
+  runs = for_logs t (λ log. IsThreadRun (source x) limits starts log) (main_run t s) (child_run t s);
   joined = joined;
   ended = no_child_ended t;
   numbers = rise;
@@ -548,11 +562,12 @@ needed = record {
 
 -- the right record ---------------------------------------------------------------------------
 
-right_runs : HasRuns (source x) limits start (thread_logs right)
+abbrev right_runs : HasRuns (source x) limits start (thread_logs right)
 right_runs = record {
   starts = starts;
   first = refl;
-  runs = for_logs right (λ log. IsThreadRun (source x) limits starts log) (main_run right) (child_run right);
+  reached = for_logs right (λ log. IsReached (thread_logs right) log.number.0) is_main (is_spawned (spawn_f right) is_main (inr (inr (inl refl))) refl);
+  runs = for_logs right (λ log. IsThreadRun (source x) limits starts log) (main_run right right_order) (child_run right right_order);
   joined = joins_give right refl;
   ended = no_child_ended right;
 }
@@ -565,7 +580,7 @@ promises = record {
   threads = threads right;
   runs = right_runs;
   histories = right_histories;
-  order = record { rises = rises right right_order; after_spawn = after_spawn right (omega arith); before_join = before_join right (omega arith); spawned_before_join = spawn_before_join right right_order };
+  order = record { after_spawn = after_spawn right (omega arith); before_join = before_join right (omega arith); spawned_before_join = spawn_before_join right right_order };
   merges = may_merge right right_order (omega arith) (omega arith) (omega arith) (omega arith);
   entries = entries_right right;
   stamps = at_most_six right right_order;
@@ -576,14 +591,14 @@ promises = record {
 at_least : (n k : ℕ) → n ≤ n + k
 at_least n k = omega arith
 
-right_counts : HasCounts (source x) limits start (thread_logs right) kept.words right_runs
+right_counts : HasCounts (source x) limits starts (thread_logs right) kept.words
 unfolding IsDistinct
 right_counts = record {
   stamps = refl;
   above = IsPermutation-refl [];
   full = λ h. absurd (omega (arith, h));
-  allocs = at_least 2 _;
-  threads = at_least 1 _;
+  allocs = (0, tt, at_least 2 0);
+  threads = (0, tt, at_least 1 0);
   made_within = All-from_recursion (λ n. n ≤ 2) (1 ∷ 2 ∷ []) (omega arith, (omega arith, tt));
   made_differ = ((refl, tt), (tt, tt));
   spawned_within = All-from_recursion (λ n. n ≤ 1) (1 ∷ []) (omega arith, tt);
