@@ -6,6 +6,7 @@ pub mod RightRun
 pub mod Feeding
 pub mod MergeLaws
 pub mod Counting
+pub mod Differing
 pub mod Tying
 pub mod Assembly
 pub mod Prefixes

@@ -25,7 +25,8 @@ use Rattle.source_sem.proofs.Ending.{erases}
 use Rattle.runs.specs.RightErasure.{AsksAlike}
 use Rattle.runs.proofs.RightErases.{right_erases}
 use Rattle.runs.proofs.RightMerges.{right_may_merge}
-use Rattle.source_runs.specs.Setting.{allowed, main_of, main_start}
+use Rattle.source_sem.specs.Starting.{setting_of, main_of, main_start}
+use Rattle.source_runs.specs.Setting.{allowed}
 use Rattle.source_runs.proofs.OwnLimits.{limits_are_asked}
 use Rattle.source_runs.specs.ErasureLaw.{EndsAlike, GoAlike, ErasureIsARun, RightRecordsErase}
 
@@ -144,7 +145,12 @@ asks_alike x = record {
 }
 
 pub right_records_erase : RightRecordsErase
-right_records_erase x limits hosts kept r =
-    let may = right_may_merge (source x) objects (allowed limits hosts) limits (main_of x.program) (main_start x) kept r in
-    right_erases (source x) (source (plain_setting x)) objects plain_objects (erases_over_objects x) (allowed limits hosts) limits (main_of x.program) (main_start x) (main_start (plain_setting x)) kept
-    ((erases x).start (main_of x.program) []) (asks_alike x) may r (limits_are_asked x (allowed limits hosts) limits kept may r)
+right_records_erase program input hosts limits kept r =
+    let x : Setting = setting_of program input hosts in
+    let may = right_may_merge (source x) objects (allowed limits hosts) limits (main_of program) (main_start x) kept r in
+    record {
+      right = r;
+      erases =
+          right_erases (source x) (source (plain_setting x)) objects plain_objects (erases_over_objects x) (allowed limits hosts) limits (main_of program) (main_start x) (main_start (plain_setting x)) kept
+          ((erases x).start (main_of program) []) (asks_alike x) may r (limits_are_asked x (allowed limits hosts) limits kept may r);
+    }

@@ -28,11 +28,12 @@ use Rattle.runs.specs.Parts.{of_alloc, names, child_of, Answers}
 use Rattle.runs.specs.Right.{HasLog, history_of}
 use Rattle.runs.specs.Stamps.{Has, RisesFrom}
 use Rattle.runs.specs.Threads.{Feeds, StartsAs}
+use Rattle.runs.proofs.Differing.{in_part}
 use Rattle.runs.proofs.Merges.{in_own_thread}
 use Rattle.source_sem.specs.Source.{Setting, Source, source, source_ask}
 use Rattle.source_sem.specs.Requests.{TopFits}
 use Rattle.source_sem.proofs.RequestLaws.{requests_fit}
-use Rattle.source_runs.specs.Setting.{main_of}
+use Rattle.source_sem.specs.Starting.{main_of}
 use Rattle.source_runs.specs.Histories.{HistoriesAreLegal}
 use Rattle.source_runs.proofs.OwnLimits.{log_with}
 
@@ -49,15 +50,6 @@ strictly n (e ∷ f ∷ es) r (suc k) lt = simp unary_clauses (simp unary_clause
 all_has : (P : Entry → Type 0) (es : List Entry) → ((e : Entry) → Has es e → P e) → AllByRecursion P es
 all_has P [] h = tt
 all_has P (e ∷ es) h = (h e (inl refl), all_has P es (λ x g. h x (inr g)))
-
-in_alloc : (a : ℕ) (es : List Entry) (e : Entry) → Has (of_alloc a es) e → (names e.alloc a ≡ true) × Has es e
-in_alloc a [] e h = absurd h
-in_alloc a (x ∷ es) e h = by_name (names x.alloc a) refl h (in_alloc a es e)
-  where
-    by_name : (b : Bool) → names x.alloc a ≡ b → Has (if b then x ∷ of_alloc a es else of_alloc a es) e → (Has (of_alloc a es) e → (names e.alloc a ≡ true) × Has es e) → (names e.alloc a ≡ true) × Has (x ∷ es) e
-    by_name true is (inl same) more = (subst (λ (z : Entry). names z.alloc a ≡ true) same is, inl same)
-    by_name true is (inr g) more = let r = more g in (r.0, inr r.1)
-    by_name false is g more = let r = more g in (r.0, inr r.1)
 
 number_named : (o : Option AllocNo) (a : ℕ) → names o a ≡ true → o ≡ Some (record { 0 = a })
 number_named None a is = absurd (true≢false (sym is))
@@ -189,7 +181,10 @@ histories_are_legal x limits hosts kept r a above le = record {
 }
   where
     place : (e : Entry) → Has (history_of kept.allocs a) e → (names e.alloc a ≡ true) × Has (entries_of kept.threads e.thread.0) e
-    place e h = in_alloc a (entries_of kept.threads e.thread.0) e (subst (λ l. Has l e) (r.histories.parts a e.thread.0 above le) (in_own_thread (history_of kept.allocs a) e h))
+    place e h = flipped (in_part a (entries_of kept.threads e.thread.0) e (subst (λ l. Has l e) (r.histories.parts a e.thread.0 above le) (in_own_thread (history_of kept.allocs a) e h)))
+      where
+        flipped : Has (entries_of kept.threads e.thread.0) e × (names e.alloc a ≡ true) → (names e.alloc a ≡ true) × Has (entries_of kept.threads e.thread.0) e
+        flipped p = (p.1, p.0)
 
     first : (log : ThreadLog) → HasLog kept.threads log → TopFits x (r.runs.starts log.number.0).frames
     first log g = elim (r.threads.spawned log g) [

@@ -3,3 +3,4 @@ pub mod Erasing
 pub mod SiblingRuns
 pub mod OwnLimits
 pub mod LegalHistories
+pub mod Reporting

@@ -33,7 +33,7 @@ use Rattle.runs.proofs.RightErases.{number_above}
 use Rattle.source_sem.specs.Source.{Setting, Source, source, source_ask}
 use Rattle.source_sem.specs.Traps.{IsOwnTrap, EndIsOwn, PlainIsOwn}
 use Rattle.source_sem.proofs.TrapLaws.{traps_are_own}
-use Rattle.source_runs.specs.Setting.{main_of, main_start}
+use Rattle.source_sem.specs.Starting.{main_of, main_start}
 
 -- what an allocation answers ------------------------------------------------------
 

@@ -38,7 +38,8 @@ use Rattle.runs.proofs.MergeLaws.{in_merged_with}
 use Rattle.runs.proofs.Order.{none_is_some}
 use Rattle.source_sem.specs.Source.{Source, source, source_ask, source_turn, source_answer, source_child}
 use Rattle.source_sem.specs.Traces.{alloc}
-use Rattle.source_runs.specs.Setting.{allowed, main_of}
+use Rattle.source_sem.specs.Starting.{main_of}
+use Rattle.source_runs.specs.Setting.{allowed}
 use Rattle.source_runs.specs.TwoThreads.{program, no_hosts, limits, x, clean, Told, make_x, make_y, spawn_f, store_y, store_x, join_f, main_log, child_log, thread_logs, alloc_logs, short_logs, right, early, late, twice, kept_away, misjoined, kept, start, Promises, IsOneRun, AfterSpawn, BeforeJoin, SpawnBeforeJoin, JoinsGiveResults, HasParts, Promise, same, Kept, Spawning, Joining, OneStamp, Restriction, JoinedValue, BreaksAlone, EachIsNeeded, IsMet}
 
 -- cases over the logs and their entries ------------------------------------------
@@ -146,7 +147,7 @@ main_run t s = record {
     (
       record { now = m1; settles = (0, refl); may = λ h. below 1 (omega arith); site = refl; asks = refl; fits = (refl, refl); child = tt },
       (
-        record { now = m2; settles = (0, refl); may = λ h. below 2 (omega arith); site = refl; asks = (refl, refl); fits = (omega arith, omega arith); child = refl },
+        record { now = m2; settles = (0, refl); may = λ h. below 2 (omega arith); site = refl; asks = (refl, refl); fits = omega arith; child = refl },
         (
           record { now = m3 t; settles = (0, refl); may = λ h. below 3 (omega arith); site = refl; asks = (refl, refl, tt); fits = inl tt; child = tt },
           (

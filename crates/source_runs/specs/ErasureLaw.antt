@@ -14,8 +14,8 @@ use Rattle.runs.specs.PlainObjects.{plain_objects}
 use Rattle.runs.specs.Threads.{AsksMake, AsksSpawn}
 use Rattle.source_sem.specs.Source.{Setting, Source, source, source_ask, source_start, plain_setting}
 use Rattle.run_record.specs.declared.record.RunRecord.{RunRecord}
-use Rattle.runs.specs.Right.{IsRight, ErasesToPlainRun}
-use Rattle.source_runs.specs.Setting.{allowed, main_of, main_start}
+use Rattle.ir_ast.specs.declared.program.Program.{Program}
+use Rattle.source_runs.specs.Setting.{allowed, IsRightFor, IsRightRecord}
 
 -- after its local turns the plain thread ends as the thread does, and asks a Make or a Spawn where that does
 pub record EndsAlike (x : Setting) (s p : Source) : Type 0 where
@@ -43,9 +43,8 @@ ErasureIsARun =
     ((last_world (source x) objects (allowed limits hosts) (first_world (source x) objects (source_start x k [])) es run).threads t)
     ((last_world (source (plain_setting x)) plain_objects (allowed limits hosts) (first_world (source (plain_setting x)) plain_objects (source_start (plain_setting x) k [])) (erasure es) plain).threads t))
 
--- a record that is right in all else erases to a run of the plain program in which each thread ends alike
+-- a record that is right in all else erases to a run of the plain program in which each thread ends alike, so that it is right
 abbrev pub RightRecordsErase : Type 0
 RightRecordsErase =
-    (x : Setting) (limits : Limits) (hosts : HostTable) (kept : RunRecord)
-    → IsRight (source x) objects (allowed limits hosts) limits (main_of x.program) (main_start x) kept
-    → ErasesToPlainRun (source (plain_setting x)) plain_objects (allowed limits hosts) (main_start (plain_setting x)) kept.threads
+    (program : Program) (input : List ℕ) (hosts : HostTable) (limits : Limits) (kept : RunRecord)
+    → IsRightFor program input hosts limits kept → IsRightRecord program input hosts limits kept

@@ -10,7 +10,8 @@ use Rattle.runs.specs.ReplayLaw.{first_progress, record_of, FitsAlways}
 use Rattle.runs.specs.Right.{IsRight}
 use Rattle.runs.specs.Theorem.{LogsMakeOneRun, PromisesMakeOneRun}
 use Rattle.source_sem.specs.Source.{Setting, source}
-use Rattle.source_runs.specs.Setting.{allowed, main_of, main_start}
+use Rattle.source_sem.specs.Starting.{main_of, main_start}
+use Rattle.source_runs.specs.Setting.{allowed}
 
 -- entries whose parts are runs of the threads and legal histories of the allocations are one run
 abbrev pub LogsAreOneRun : Type 0

@@ -4,3 +4,4 @@ pub mod TwoThreads
 pub mod ErasureLaw
 pub mod Sibling
 pub mod Histories
+pub mod Reportable

@@ -36,7 +36,8 @@ use Rattle.runs.specs.Threads.{IsThreadRun}
 use Rattle.runs.specs.Tree.{IsEntryRight}
 use Rattle.source_sem.specs.Source.{Source, Setting, source}
 use Rattle.source_sem.specs.Traces.{named, no_result, gives, ptr_param, reg, number, def, does, block, function, ret_void, ret_of, prov, alloc}
-use Rattle.source_runs.specs.Setting.{setting_of, allowed, main_name, main_of, main_start, IsRightFor}
+use Rattle.source_sem.specs.Starting.{setting_of, main_name, main_of, main_start}
+use Rattle.source_runs.specs.Setting.{allowed, IsRightFor}
 
 -- func @f(ptr %x) -> void: 0 store i64 1, %x   1 ret void
 abbrev pub f : Function
@@ -233,7 +234,7 @@ pub record BreaksAlone (broken : Promise) (logs : List ThreadLog) (allocs : List
   pub within : length (merged logs) ≤ limits.steps
   pub unslotted : (a : ℕ) → ((0 < a) × (a ≤ limits.allocs)) ⊎ Legal objects (objects.unmade a) (of_alloc a (merged logs))
 
--- each promise is needed: a record breaks it alone, and its merge is no run
+-- each of five promises is needed: a record breaks it alone, and its merge is no run
 pub record EachIsNeeded : Type 0 where
   pub spawning : BreaksAlone Spawning (thread_logs early) (alloc_logs early)
   pub spawning_no_run : IsOneRun (thread_logs early) → ⊥

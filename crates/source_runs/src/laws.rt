@@ -1,5 +1,10 @@
-//! What holds of all runs.
+//! What holds of all runs. The functions do nothing: each contract is a law.
+ghost use Rattle.source_runs.specs.ErasureLaw.{ErasureIsARun, RightRecordsErase};
+ghost use Rattle.source_runs.specs.Histories.{HistoriesAreLegal};
 ghost use Rattle.source_runs.specs.Laws.{LogsAreOneRun, PromisesAreOneRun, BeginningsAreRuns, ReplaysAreRight};
+ghost use Rattle.source_runs.specs.Reportable.{RightRecordsAreReportable};
+ghost use Rattle.source_runs.specs.Sibling.{IsErasedRun};
+ghost use Rattle.source_runs.specs.TwoThreads.{IsMet, EachIsNeeded};
 
 /// Separate logs are one run: the threads' logs, the allocations' histories and the order of
 /// their stamps say all of it. A run that is broken off is a run. A replay leaves a right record.
@@ -10,29 +15,28 @@ pub fn logs_are_one_run()
     ensures replays { ReplaysAreRight }
 {}
 
-ghost use Rattle.source_runs.specs.TwoThreads.{IsMet, EachIsNeeded};
-
-/// A whole record of two threads and two allocations keeps what is promised and is right; and each
-/// promise is needed: a record that breaks it alone is no run.
+/// A whole record of two threads and two allocations keeps what is promised and is right. Five of
+/// the promises are shown to be needed: a record that breaks one of them alone is no run.
 pub fn two_threads_by_example()
     ensures met { IsMet }
     ensures needed { EachIsNeeded }
 {}
 
-ghost use Rattle.source_runs.specs.ErasureLaw.{ErasureIsARun, RightRecordsErase};
-ghost use Rattle.source_runs.specs.Sibling.{IsErasedRun};
-
 /// A run without its retags and protector ends is a run of the plain program, whose threads end
-/// alike, also in a right record; shown of a run in which a protector's end disables a sibling.
+/// alike. So a record that is right in all else is a right record. Shown of a run in which a
+/// protector's end disables a sibling.
 pub fn erasures_are_runs()
     ensures runs { ErasureIsARun }
     ensures records { RightRecordsErase }
     ensures example { IsErasedRun }
 {}
 
-ghost use Rattle.source_runs.specs.Histories.{HistoriesAreLegal};
-
 /// Each allocation log of a right record is a legal history of its number.
 pub fn histories_are_legal()
     ensures { HistoriesAreLegal }
+{}
+
+/// A right record is one of which a report can be made.
+pub fn right_records_are_reportable()
+    ensures { RightRecordsAreReportable }
 {}

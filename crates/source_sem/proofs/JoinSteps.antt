@@ -32,14 +32,15 @@ use Rattle.source_sem.specs.Parts.{Progress}
 use Rattle.source_sem.specs.Source.{ready_turn, term_ask, ready_ask, returned_value, at_frames, counted, part_child, insts_child, frames_child, Setting, Source, Frame, Doing, Ready, Entering, Copying, Waiting, Retagging, Leaving, op_part, result_step, joined}
 use Rattle.source_sem.proofs.Mirroring.{fr}
 use Rattle.source_sem.specs.Plain.{IsWaiting}
-use Rattle.source_sem.specs.Joining.{Enters, IsLost, CallersStand, FramesStand, ThreadStands, JoinLaw, dest_defines, IsSpawnOp, Has, Holds, FunctionJoins, JoinsAccepted, Site, Placed, Waits, Retagged, DoingStands}
+use Rattle.source_sem.specs.Joining.{StartsNoMain, Enters, IsLost, CallersStand, FramesStand, ThreadStands, JoinLaw, dest_defines, IsSpawnOp, Has, Holds, FunctionJoins, JoinsAccepted, Site, Placed, Waits, Retagged, DoingStands}
 use Rattle.source_sem.proofs.Joins.{join_asks, holds_more}
-use Rattle.runs.specs.Parts.{Answers}
+use Rattle.runs.specs.Parts.{Answers, child_of, spawned_of, spawned_by}
 use Rattle.runs.specs.Erasure.{trap_of}
 use Rattle.perm_table.specs.declared.Guard.TheVariants.{Free}
 use Rattle.ir_ast.specs.declared.types.Place.TheVariants.{Stack, Heap}
 use Rattle.history.specs.Pieces.{Byte}
 use Rattle.source_sem.specs.Joining.{is_bound}
+use Rattle.history.specs.declared.entry.Request.TheVariants as request
 use Rattle.source_sem.specs.Parts.{copy_ask_by, protect, Made, with_stack, release_by, released_by, untouched, copy_after, copy_done, retag_ask}
 use Rattle.source_sem.specs.Source.{entry_ask, frames_type, nowhere, leave_with, copy_on, part_answer, term_answer, ready_answer, copying_part, copying_answer, entered, doing_answer, frames_answer, doing_ask, frames_ask, release_or, copying_ask, copying_by, SpawnedChild, ReplyFits, frames_turn, counted_if, frames_begin, is_ready}
 use Rattle.source_sem.proofs.JoinLaw.{next_some, dest_gives, PartGives, IsSpawns, step_gives, spawn_part, resumed_stands, return_stands, entering_stands, start_stands, ready_turns, mod_same}
@@ -83,14 +84,18 @@ has_append started [] c d old (inr q) = absurd q
 has_append started (e ∷ cs) c d old (inl q) = inr (old d (inl q))
 has_append started (e ∷ cs) c d old (inr q) = has_append started cs c d (λ z h. old z (inr h)) q
 
-spawned_number : (p : Plain) → SpawnedChild p → (0 < number_in p) × (number_in p < 2 ^ 32)
-spawned_number (plain.Spawned c) h = h
-spawned_number (plain.Made a) h = absurd h
-spawned_number (plain.Value v) h = absurd h
-spawned_number (plain.Copied piece) h = absurd h
-spawned_number plain.Done h = absurd h
-spawned_number (plain.Retagged added) h = absurd h
-spawned_number (plain.Trapped e) h = absurd h
+-- what a thread is told, and that a child that it starts isn't thread 0
+abbrev Told : Option Ty → Entry → Type 0
+Told ty e = ReplyFits ty e e.request × StartsNoMain e
+
+spawned_number : (e : Entry) (k : ℕ) (p : Plain) → e.request ≡ request.Spawn k → e.reply.plain ≡ p → SpawnedChild p → StartsNoMain e → (0 < number_in p) × (number_in p < 2 ^ 32)
+spawned_number e k (plain.Spawned c) asks is h above = (above c.0 (ap (λ r. spawned_by r e.reply.plain) asks ∙ ap spawned_of is), h)
+spawned_number e k (plain.Made a) asks is h above = absurd h
+spawned_number e k (plain.Value v) asks is h above = absurd h
+spawned_number e k (plain.Copied piece) asks is h above = absurd h
+spawned_number e k plain.Done asks is h above = absurd h
+spawned_number e k (plain.Retagged added) asks is h above = absurd h
+spawned_number e k (plain.Trapped t) asks is h above = absurd h
 
 made_has : (place : Place) (m : Made) (o : Owned) (c : ℕ) → Has (with_stack place m o).children c → Has o.children c
 made_has Heap m o c h = h
@@ -168,7 +173,7 @@ module _ (x : Setting) (acc : JoinsAccepted x.program) where
   join_typed c None attr h = absurd h
 
   part_answers : (t : Source) (k : ℕ) (at : Site x.program k) (i : Inst) (is : List Inst) (j : Jump) (n : ℕ) (env : Env) (o : Owned) (done : List Inst) (fs : List Frame) (e : Entry) (q : Part) → ((c : ℕ) → Has t.started c → (0 < c) × (c < 2 ^ 32)) → CallersStand x.program t.started fs → FramesStand x.program t.started t.frames
-      → Placed x.program t.started k at env o done (i ∷ is) j → ((m : Named) → i.dest ≡ Some m → PartGives q) → (IsSpawnOp i.op → IsSpawns q) → Answers (part_ask q) e → (ty : Option Ty) → ReplyFits ty e e.request
+      → Placed x.program t.started k at env o done (i ∷ is) j → ((m : Named) → i.dest ≡ Some m → PartGives q) → (IsSpawnOp i.op → IsSpawns q) → Answers (part_ask q) e → (ty : Option Ty) → Told ty e
       → ThreadStands x.program (part_answer x t (fr k (i ∷ is) j n env o Ready) fs is i.dest q e.reply)
   part_answers t k at i is j n env o done fs e (Steps (Makes m place)) kids callers same p gives spawns a ty fits =
       step_stands t k at i is j n env o (step_owned (Makes m place) e.reply o) done fs (step_result (Makes m place) e.reply) kids callers p (λ u h. step_gives (Makes m place) e.reply (gives u h)) spawns (λ c h. p.owned c (made_has place _ o c h))
@@ -179,7 +184,7 @@ module _ (x : Setting) (acc : JoinsAccepted x.program) where
   part_answers t k at i is j n env o done fs e (Steps (Hosts m b c)) kids callers same p gives spawns a ty fits =
       step_stands t k at i is j n env o o done fs (step_result (Hosts m b c) e.reply) kids callers p (λ u h. step_gives (Hosts m b c) e.reply (gives u h)) spawns p.owned
   part_answers t k at i is j n env o done fs e (Steps (Spawns k2 vs)) kids callers same p gives spawns a ty fits =
-      spawn_stands t k at i is j n env o done fs (number_in e.reply.plain) kids callers p (spawned_number e.reply.plain (subst (λ z. ReplyFits ty e z) a.0 fits))
+      spawn_stands t k at i is j n env o done fs (number_in e.reply.plain) kids callers p (spawned_number e k2 e.reply.plain a.0 refl (subst (λ z. ReplyFits ty e z) a.0 fits.0) fits.1)
   part_answers t k at i is j n env o done fs e (Retags u kind m) kids callers same p gives spawns a ty fits =
       step_stands t k at i is j n env o o done fs (Some (record { value = u.value; prov = e.reply.carried })) kids callers p (λ m2 h. (record { value = u.value; prov = e.reply.carried }, refl)) spawns p.owned
   part_answers t k at i is j n env o done fs e (Copies u v m) kids callers same p gives spawns a ty fits =
@@ -203,7 +208,7 @@ module _ (x : Setting) (acc : JoinsAccepted x.program) where
   copying_part_stands t k at i is j n env o done fs pr r (Joins c ty attr) e kids callers p gives spawns a = absurd a
 
   ready_answers : (t : Source) (k : ℕ) (at : Site x.program k) (is : List Inst) (j : Jump) (n : ℕ) (env : Env) (o : Owned) (done : List Inst) (fs : List Frame) (e : Entry) → ((c : ℕ) → Has t.started c → (0 < c) × (c < 2 ^ 32)) → CallersStand x.program t.started fs → FramesStand x.program t.started t.frames
-      → Placed x.program t.started k at env o done is j → Answers (ready_ask x (fr k is j n env o Ready) (suc (length fs)) is) e → (ty : Option Ty) → ReplyFits ty e e.request
+      → Placed x.program t.started k at env o done is j → Answers (ready_ask x (fr k is j n env o Ready) (suc (length fs)) is) e → (ty : Option Ty) → Told ty e
       → ThreadStands x.program (ready_answer x t (fr k is j n env o Ready) fs is e.reply)
   ready_answers t k at [] j n env o done fs e kids callers same p a ty fits = term_answers t k j n env o fs kids callers same p.owned
   ready_answers t k at (i ∷ is) j n env o done fs e kids callers same p a ty fits =
@@ -246,7 +251,7 @@ module _ (x : Setting) (acc : JoinsAccepted x.program) where
       record { frames = (inr (h.at, h.done ++ h.i ∷ [], placed), callers); kids = kids }
 
   doing_answers : (s : Source) (k : ℕ) (is : List Inst) (j : Jump) (n : ℕ) (env : Env) (o : Owned) (d : Doing) (fs : List Frame) (e : Entry) → ((c : ℕ) → Has s.started c → (0 < c) × (c < 2 ^ 32)) → CallersStand x.program s.started fs → FramesStand x.program s.started s.frames
-      → DoingStands x.program s.started k is j env o d → Answers (doing_ask x (fr k is j n env o d) (suc (length fs)) d) e → (ty : Option Ty) → ReplyFits ty e e.request
+      → DoingStands x.program s.started k is j env o d → Answers (doing_ask x (fr k is j n env o d) (suc (length fs)) d) e → (ty : Option Ty) → Told ty e
       → ThreadStands x.program (doing_answer x (counted_if (is_ready d) s) (fr k is j n env o d) fs d e.reply)
   doing_answers s k is j n env o Ready fs e kids callers same h a ty fits = ready_answers (counted s) k h.0 is j n env o h.1 fs e kids callers same h.2 a ty fits
   doing_answers s k is j n env o (Entering []) fs e kids callers same h a ty fits = absurd a
@@ -262,7 +267,7 @@ module _ (x : Setting) (acc : JoinsAccepted x.program) where
       (subst (λ z. ready_ask x (fr k z j n env o Ready) depth z ≡ nowhere) (sym l.insts)
       (subst (λ z. term_ask (fr k [] z n env o Ready) z ≡ nowhere) (sym l.term) refl))
 
-  frames_answers : (s : Source) (fs : List Frame) (e : Entry) (t : Option Trap) → ((c : ℕ) → Has s.started c → (0 < c) × (c < 2 ^ 32)) → FramesStand x.program s.started s.frames → FramesStand x.program s.started fs → Answers (frames_ask x fs s.over) e → (ty : Option Ty) → ReplyFits ty e e.request
+  frames_answers : (s : Source) (fs : List Frame) (e : Entry) (t : Option Trap) → ((c : ℕ) → Has s.started c → (0 < c) × (c < 2 ^ 32)) → FramesStand x.program s.started s.frames → FramesStand x.program s.started fs → Answers (frames_ask x fs s.over) e → (ty : Option Ty) → Told ty e
       → ThreadStands x.program (frames_answer x (counted_if (frames_begin fs) s) fs t e.reply)
   frames_answers s [] e t kids same h a ty fits = absurd a
   frames_answers s (f ∷ fs) e (Some t) kids same h a ty fits = trapped (is_ready f.doing)
@@ -442,6 +447,6 @@ module _ (x : Setting) (acc : JoinsAccepted x.program) where
     start = start_stands x acc;
     child = λ s. child_stands s.frames;
     turn = λ s h a. frames_turns x acc s s.frames h.kids h.frames a;
-    after = λ s e h a fits. frames_answers x acc s s.frames e (trap_of e.reply.plain) h.kids h.frames h.frames a (frames_type x s.frames) fits;
+    after = λ s e h a fits above. frames_answers x acc s s.frames e (trap_of e.reply.plain) h.kids h.frames h.frames a (frames_type x s.frames) (fits, above);
     asks = λ s c h a. let child : Has s.started c.0 = frames_joins s s.frames c h.kids h.frames a in (child, (h.kids c.0 child).0);
   }

@@ -18,7 +18,7 @@ use Rattle.history.specs.declared.ask.Arg.{Arg}
 use Rattle.history.specs.declared.entry.Entry.{Entry}
 use Rattle.bsan_ids.specs.declared.numbers.ThreadNo.{ThreadNo}
 use Rattle.history.specs.declared.ask.Ask.TheVariants as ask
-use Rattle.runs.specs.Parts.{Answers}
+use Rattle.runs.specs.Parts.{Answers, child_of}
 use Rattle.source_sem.specs.Parts.{Owned}
 use Rattle.source_sem.specs.Plain.{IsWaiting}
 use Rattle.ir_ast.specs.Numbers.{block_place}
@@ -206,10 +206,14 @@ pub record ThreadStands (P : Program) (s : Source) : Type 0 where
   pub frames : FramesStand P s.started s.frames
   pub kids : (c : ℕ) → Has s.started c → (0 < c) × (c < 2 ^ 32)
 
+-- the thread that the entry starts, if it starts one, isn't thread 0
+abbrev pub StartsNoMain : Entry → Type 0
+StartsNoMain e = (c : ℕ) → child_of e ≡ Some c → 0 < c
+
 -- in every state that a thread of an accepted program can reach, a join asks for one of its children
 pub record JoinLaw (x : Setting) : Type 0 where
   pub start : (k : ℕ) (args : List Arg) → ThreadStands x.program (source_start x k args)
   pub child : (s : Source) → ThreadStands x.program (source_child x s)
   pub turn : (s : Source) → ThreadStands x.program s → source_ask x s ≡ ask.Turn → ThreadStands x.program (source_turn x s)
-  pub after : (s : Source) (e : Entry) → ThreadStands x.program s → Answers (source_ask x s) e → source_fits x s e → ThreadStands x.program (source_answer x s e.reply)
+  pub after : (s : Source) (e : Entry) → ThreadStands x.program s → Answers (source_ask x s) e → source_fits x s e → StartsNoMain e → ThreadStands x.program (source_answer x s e.reply)
   pub asks : (s : Source) (c : ThreadNo) → ThreadStands x.program s → source_ask x s ≡ ask.Join c → Has s.started c.0 × (0 < c.0)

@@ -20,7 +20,6 @@ use Rattle.ir_ast.specs.Numbers.{place, function_place, block_place, number_of_b
 use Rattle.ir_ast.specs.Attributes.{guard_of, attr_of_call, definitions, attr_of_handle}
 use Rattle.ir_ast.specs.declared.types.Ty.{Ty}
 use Rattle.ir_ast.specs.declared.types.Ty.TheVariants.{Int, Ptr}
-use Rattle.ir_ast.specs.declared.types.Width.TheVariants.{W64}
 use Rattle.ir_ast.specs.declared.types.Attr.{Attr}
 use Rattle.ir_ast.specs.declared.program.Block.{Block}
 use Rattle.ir_ast.specs.declared.program.Function.{Function}
@@ -434,8 +433,13 @@ RetaggedAt e (plain.Retagged false) = Unit {0}
 RetaggedAt e other = ⊥
 
 abbrev pub SpawnedChild : Plain → Type 0
-SpawnedChild (plain.Spawned c) = (0 < c.0) × (c.0 < 2 ^ 32)
+SpawnedChild (plain.Spawned c) = c.0 < 2 ^ 32
 SpawnedChild other = ⊥
+
+-- a word of 64 bits; nothing is asked of what it carries
+abbrev pub IsWord : Plain → Type 0
+IsWord (plain.Value v) = v < 2 ^ 64
+IsWord other = ⊥
 
 -- the type that a join names, if the thread stands at one
 abbrev pub part_type : Part → Option Ty
@@ -459,7 +463,7 @@ ReplyFits ty e (request.Free at stack prov) = IsDone e.reply.plain ⊎ IsTrap e.
 ReplyFits ty e (request.Retag at n kind guard prov) = RetaggedAt e e.reply.plain
 ReplyFits ty e (request.EndProtector tag) = IsDone e.reply.plain
 ReplyFits ty e (request.Print v) = IsDone e.reply.plain
-ReplyFits ty e (request.Host n a b) = ValueIn (Int W64) e.reply e.reply.plain × (IsTrap e.reply.plain → ⊥)
+ReplyFits ty e (request.Host n a b) = IsWord e.reply.plain
 ReplyFits ty e (request.Spawn k) = SpawnedChild e.reply.plain
 ReplyFits ty e (request.Join c) = JoinFits ty e.reply e.reply.plain × (IsTrap e.reply.plain → ⊥)
 

@@ -38,9 +38,10 @@ use Rattle.runs.specs.Erasure.{trap_of}
 use Rattle.source_sem.specs.Env.{Env, blank, value_in, arg_of, args_of, word_bits, put, put_some}
 use Rattle.source_sem.specs.Parts.{Part, Step, Access, Gives, Fails, Steps, Retags, Copies, Calls, Joins, Makes, Accesses, Prints, Hosts, Spawns, Loads, Stores, Modifies, Compares, Frees, Progress, untouched, Owned, copy_after, copy_after_by, copied_of, copy_done, released, release_ask, release_by, number_in, step_ask, step_result, access_request, step_owned, step_started, part_ask, copy_ask, copy_ask_by, retag_ask, chosen, makes_step}
 use Rattle.ir_ast.specs.Numbers.{block_place}
-use Rattle.source_sem.specs.Source.{Setting, Source, Frame, Doing, Ready, Entering, Copying, Waiting, Retagging, Leaving, ValueIn, JoinFits, MadeAt, ReplyFits, op_part, advance, in_block, goto_in, goto, has_step, to_retag, entering, first_insts, first_term, frame_of, new_frame, taken, taken_arg, result_step, resumed_by, resumed, return_to, returned_value, part_turn, term_turn, ready_turn, frames_turn, counted, counted_if, leave, leave_on, copy_on, joined, part_answer, term_answer, ready_answer, copying_part, copying_answer, entering_answer, doing_answer, frames_answer, source_begins, source_start, source_child, part_child, insts_child, frames_child, frames_ask, doing_ask, ready_ask, term_ask, copying_ask, copying_by, entry_ask, entering_ask, release_or, nowhere, part_type, insts_type, frames_type}
+use Rattle.source_sem.specs.Source.{IsWord, Setting, Source, Frame, Doing, Ready, Entering, Copying, Waiting, Retagging, Leaving, ValueIn, JoinFits, MadeAt, ReplyFits, op_part, advance, in_block, goto_in, goto, has_step, to_retag, entering, first_insts, first_term, frame_of, new_frame, taken, taken_arg, result_step, resumed_by, resumed, return_to, returned_value, part_turn, term_turn, ready_turn, frames_turn, counted, counted_if, leave, leave_on, copy_on, joined, part_answer, term_answer, ready_answer, copying_part, copying_answer, entering_answer, doing_answer, frames_answer, source_begins, source_start, source_child, part_child, insts_child, frames_child, frames_ask, doing_ask, ready_ask, term_ask, copying_ask, copying_by, entry_ask, entering_ask, release_or, nowhere, part_type, insts_type, frames_type}
 use Rattle.source_words.specs.Typing.{HasType, DestHolds, ParamTyped, InstTyped, GoalTyped, RetTyped, JumpTyped, BlockTyped, FunctionTyped, ProgramTyped}
-use Rattle.source_words.specs.Invariant.{HoldsFit, EnvFits, ArgsFit, ResultFits, AreBytes, HalfFits, Enters, DoingFits, FrameFits, Awaits, CallersFit, EndFits, FramesFit, SourceFits, PlainFits, PieceFits, RegistersFit, Runs, Told, JoinsTyped, WordLaw}
+use Rattle.source_sem.specs.Starting.{ArgsFit}
+use Rattle.source_words.specs.Invariant.{HoldsFit, EnvFits, ResultFits, AreBytes, HalfFits, Enters, DoingFits, FrameFits, Awaits, CallersFit, EndFits, FramesFit, SourceFits, PlainFits, PieceFits, RegistersFit, Told, JoinsTyped, WordLaw}
 use Rattle.source_words.proofs.Registers.{fits_plain, fits_at, fits_ptr, fits_arg, MayGive, env_put, env_dest, env_empty, env_bind, arg_fits, args_fit}
 use Rattle.source_words.proofs.Operations.{AccessFits, Begins, StepFits, PartFits, op_fits}
 
@@ -68,6 +69,15 @@ value_word ty r (plain.Copied piece) fits none = absurd fits
 value_word ty r plain.Done fits none = absurd fits
 value_word ty r (plain.Retagged b) fits none = absurd fits
 value_word ty r (plain.Spawned c) fits none = absurd fits
+
+is_word : (p : Plain) → IsWord p → number_in p < 2 ^ 64
+is_word (plain.Value v) fits = fits
+is_word (plain.Made a) fits = absurd fits
+is_word (plain.Copied piece) fits = absurd fits
+is_word plain.Done fits = absurd fits
+is_word (plain.Retagged b) fits = absurd fits
+is_word (plain.Spawned c) fits = absurd fits
+is_word (plain.Trapped t) fits = absurd fits
 
 join_word : (ty : Ty) (r : Reply) (p : Plain) → JoinFits (Some ty) r p → trap_of p ≡ None → number_in p < 2 ^ word_bits ty
 join_word ty r p fits none = value_word ty r p fits none
@@ -156,7 +166,7 @@ module _ (x : Setting) (K : ℕ → ℕ → Type 0) (zero_fits : (k : ℕ) → K
   step_given h (Prints v) e ty is asks fit words told none = tt
   step_given h (Hosts n a b) e ty is asks fit words told none =
       let reply : ReplyFits ty e (request.Host n a b) = subst (ReplyFits ty e) asks.0 fit in
-      let less : number_in e.reply.plain < 2 ^ 64 = value_word (Int W64) e.reply e.reply.plain reply.0 none in
+      let less : number_in e.reply.plain < 2 ^ 64 = is_word e.reply.plain reply in
       subst (λ z. MayGive P K z (step_result (Hosts n a b) e.reply)) (sym is.0.1) (fits_plain is.0.0 _ (subst (λ n. number_in e.reply.plain < 2 ^ n) (sym is.0.2) less))
   step_given h (Spawns k args) e ty is asks fit words told none =
       let runs : K k (number_in e.reply.plain) = subst (λ r. Told K r e.reply.plain) asks.0 told in
@@ -483,10 +493,6 @@ module _ (x : Setting) (K : ℕ → ℕ → Type 0) (zero_fits : (k : ℕ) → K
     hosts = λ last s n a b fits is. subst (λ z. AskFits last (frames_type x s.frames) (source_child x s) z) is (frames_asks last s.frames s.over fits);
     returns = λ last s word prov fits is. subst (λ z. AskFits last (frames_type x s.frames) (source_child x s) z) is (frames_asks last s.frames s.over fits);
   }
-
-pub runs_small : (functions : ℕ → Option ℕ) (k c : ℕ) → Runs functions k c → c < 2 ^ 32
-runs_small functions k c (inl is) = omega (arith, is)
-runs_small functions k c (inr r) = r.1
 
 -- more threads ---------------------------------------------------------------------------
 

@@ -23,7 +23,8 @@ use Rattle.ir_ast.specs.Attributes.{attr_of_call}
 use Rattle.ir_ast.specs.Numbers.{function_place}
 use Rattle.source_sem.specs.Source.{Setting, ValueFits, op_part}
 use Rattle.source_words.specs.Typing.{ArgTyped, OpTyped}
-use Rattle.source_words.specs.Invariant.{EnvFits, ArgsFit, JoinsTyped}
+use Rattle.source_sem.specs.Starting.{ArgsFit}
+use Rattle.source_words.specs.Invariant.{EnvFits, JoinsTyped}
 use Rattle.source_words.proofs.Words.{WorkedFits, worked_fits, wrapped, cast_fits}
 use Rattle.source_words.proofs.Registers.{fits_plain, fits_ptr, fits_arg, fits_blank, MayGive, operand_fits, arg_fits, args_fit}
 

@@ -22,7 +22,8 @@ use Rattle.ir_ast.specs.Numbers.{function_place}
 use Rattle.source_sem.specs.Source.{ValueFits}
 use Rattle.ir_ast.specs.declared.program.Program.{Program}
 use Rattle.source_words.specs.Typing.{DestHolds, OperandTyped, ArgTyped, ParamTyped}
-use Rattle.source_words.specs.Invariant.{HoldsFit, EnvFits, ArgsFit}
+use Rattle.source_sem.specs.Starting.{ArgsFit}
+use Rattle.source_words.specs.Invariant.{HoldsFit, EnvFits}
 
 -- values
 

@@ -27,7 +27,7 @@ use Rattle.ir_rules.specs.Rules.{IsAccepted, function_named}
 use Rattle.ir_rules.specs.Rules.Broken.{no_main}
 use Rattle.runs.specs.Interleaving.{World, first_world, world_after, HasReturned, Allowed, Replies, Event, Interleaves, last_world}
 use Rattle.runs.specs.Machine.{TurnsTo}
-use Rattle.runs.specs.ReplayLaw.{FitsAlways}
+use Rattle.runs.specs.ReplayLaw.{record_of, FitsAlways}
 use Rattle.runs.proofs.ObjectLaws.{objects_make_alone}
 use Rattle.runs.proofs.ReplayRight.{replay_is_right}
 use Rattle.ir_ast.specs.HostAnswers.{Allows}
@@ -38,16 +38,19 @@ use Rattle.std.proofs.lemmas.Nat.{ones_le_self}
 use Rattle.runs.specs.Objects.{objects}
 use Rattle.runs.specs.Parts.{Answers, IsOnNumber, names, child_of, spawned_by, is_child}
 use Rattle.source_joins.proofs.Accepting.{accepted_programs_join}
-use Rattle.source_runs.specs.Setting.{MayAnswer, allowed, main_of, main_start}
-use Rattle.source_sem.specs.Joining.{JoinLaw, ThreadStands}
+use Rattle.source_sem.specs.Starting.{setting_of, main_of, main_start}
+use Rattle.source_runs.specs.Setting.{MayAnswer, allowed}
+use Rattle.source_sem.specs.Joining.{StartsNoMain, JoinLaw, ThreadStands}
 use Rattle.source_sem.specs.Parts.{number_in}
 use Rattle.source_sem.specs.Source.{Setting, Source, ReplyFits, JoinFits, ValueFits, frames_type, source, source_ask, source_turn, source_answer, source_child, source_fits}
 use Rattle.source_sem.proofs.JoinSteps.{join_law}
-use Rattle.source_words.specs.Invariant.{ArgsFit, ResultFits, SourceFits, PlainFits, PieceFits, Told, WordLaw}
+use Rattle.source_sem.specs.Starting.{ArgsFit}
+use Rattle.source_words.specs.Invariant.{ResultFits, SourceFits, PlainFits, PieceFits, Told, WordLaw}
 use Rattle.source_words.specs.Allocations.{ObjectFits, IsOfAllocation, IsMake}
-use Rattle.source_words.specs.Worlds.{RepliesAlwaysFit, ReplaysNeedNoPremise}
+use Rattle.source_words.specs.Worlds.{RepliesAlwaysFit, ReplaysLeaveRightRecords}
 use Rattle.source_words.proofs.Accepting.{program_typed}
 use Rattle.source_words.proofs.Bytes.{allocation_law, swapped_word}
+use Rattle.source_runs.proofs.Erasing.{right_records_erase}
 use Rattle.source_words.proofs.Deciding.{function_found}
 use Rattle.source_words.proofs.Keeping.{word_law, fits_for_more}
 
@@ -110,6 +113,7 @@ pub record Child (x : Setting) (w : World (source x) objects) (e : Entry) (now :
   pub child : child_of e ≡ Some number
   pub told : number_in e.reply.plain ≡ number
   pub fresh : w.threads number ≡ None
+  pub above : 0 < number
   pub short : number < 2 ^ 32
 
 pub record NoChild (e : Entry) : Type 0 where
@@ -151,6 +155,12 @@ module _ (x : Setting) (A : Allowed) (w : World (source x) objects) (e : Entry) 
   on_number (request.Host n a b) on h = absurd on
   on_number (request.Spawn f) on h = absurd on
   on_number (request.Join c) on h = absurd on
+
+module _ (x : Setting) where
+  -- a thread that is started isn't thread 0
+  child_above : (w : World (source x) objects) (e : Entry) (now : Source) → NoChild e ⊎ Child x w e now → StartsNoMain e
+  child_above w e now (inl none) c is = none_some (sym none.child ∙ is)
+  child_above w e now (inr one) c is = subst (λ n. 0 < n) (some_same (sym one.child ∙ is)) one.above
 
 module _ (x : Setting) (hosts : HostTable) (A : Allowed) (program : IsProgram x.program) (ok : IsAccepted x.program hosts) (bytes : Each (λ b. b < 256) x.input) (less : A.allocs < 2 ^ 32) (host_words : HostWords A) where
   law : (threads : ℕ → Option Source) (kinds : ℕ → ℕ) → WordLaw x (Runs threads kinds)
@@ -222,9 +232,9 @@ module _ (x : Setting) (hosts : HostTable) (A : Allowed) (program : IsProgram x.
         let r : Request = request.Host n a b in
         let g = given r h.0 in
         let words = (law w.threads i.kinds).hosts f.code.result.ty now n a b f.words asked in
-        let word : ValueFits (Rattle.ir_ast.specs.declared.types.Ty.TheVariants.Int Rattle.ir_ast.specs.declared.types.Width.TheVariants.W64) (record { value = g.0; prov = None }) = record { word = host_words n a b g.0 words.0 words.1 g.1; prov = refl } in
+        let word : g.0 < 2 ^ 64 = host_words n a b g.0 words.0 words.1 g.1 in
         record {
-          fits = fits_as r h.0 (subst (λ (z : Reply). ReplyFits None (record e { reply = z }) r) (sym g.2) (word, λ t. t));
+          fits = fits_as r h.0 (subst (λ (z : Reply). ReplyFits None (record e { reply = z }) r) (sym g.2) word);
           suits = plain_as _ g.2 tt;
           piece = subst PieceFits (sym h.0) tt;
           child = inl (no_spawn e r h.0 tt refl);
@@ -237,7 +247,7 @@ module _ (x : Setting) (hosts : HostTable) (A : Allowed) (program : IsProgram x.
         let some : 0 < c.0 = g.1 in
         let short : c.0 < 2 ^ 32 = omega (arith, most) in
         record {
-          fits = fits_as r h.0 (subst (λ (z : Reply). ReplyFits None (record e { reply = z }) r) (sym g.4) (some, short));
+          fits = fits_as r h.0 (subst (λ (z : Reply). ReplyFits None (record e { reply = z }) r) (sym g.4) short);
           suits = plain_as _ g.4 tt;
           piece = subst PieceFits (sym h.0) tt;
           child = inr (record {
@@ -248,6 +258,7 @@ module _ (x : Setting) (hosts : HostTable) (A : Allowed) (program : IsProgram x.
             child = ap (λ z. spawned_by z e.reply.plain) h.0 ∙ ap (λ (z : Reply). spawned_by r z.plain) g.4;
             told = ap (λ (z : Reply). number_in z.plain) g.4;
             fresh = g.3;
+            above = some;
             short = short;
           });
         }
@@ -299,7 +310,7 @@ module _ (x : Setting) (hosts : HostTable) (A : Allowed) (program : IsProgram x.
                 code = f.code;
                 is_code = subst (λ n. slice_get x.program.functions n ≡ Some f.code) k f.is_code;
                 words = words;
-                stands = joins.after v.now e f.stands v.asks known.fits;
+                stands = joins.after v.now e f.stands v.asks known.fits (child_above x w e v.now known.child);
               } in
               subst (λ z. ThreadFits x next.threads kinds (kinds c) z) (some_same at) after
           by_test false true here is at = subst (λ z. ThreadFits x next.threads kinds (kinds c) z) (some_same at) (child_fits c is)
@@ -416,6 +427,8 @@ pub replies_always_fit : RepliesAlwaysFit
 replies_always_fit x limits hosts program ok bytes less =
     always x hosts (allowed limits hosts) program ok bytes less (λ n first second answer one two is. entry_words (slice_get hosts.entries n) first second answer one two is)
 
-pub replays_need_no_premise : ReplaysNeedNoPremise
-replays_need_no_premise x limits hosts schedule last program ok bytes less replay =
-    replay_is_right (source x) objects (allowed limits hosts) limits schedule (main_of x.program) (main_start x) last refl objects_make_alone (replies_always_fit x limits hosts program ok bytes less) replay
+pub replays_leave_right_records : ReplaysLeaveRightRecords
+replays_leave_right_records program input hosts limits schedule last accepts ok bytes less replay =
+    let x : Setting = setting_of program input hosts in
+    right_records_erase program input hosts limits (record_of (source x) objects limits last)
+    (replay_is_right (source x) objects (allowed limits hosts) limits schedule (main_of program) (main_start x) last refl objects_make_alone (replies_always_fit x limits hosts accepts ok bytes less) replay)

@@ -1,5 +1,5 @@
 -- Words of their types: in registers, in what a frame waits for, and in what a thread returns.
-use Rattle.std.specs.Prelude.{◌≡◌, ℕ, ◌<◌, ◌^◌, ◌⊎◌, List, [], ◌∷◌, Option, Some, None, slice_get}
+use Rattle.std.specs.Prelude.{◌≡◌, ℕ, ◌<◌, ◌^◌, Bool, true, List, [], ◌∷◌, Option, Some, None, slice_get}
 use Rattle.history.specs.declared.ask.Arg.{Arg}
 use Rattle.history.specs.declared.ask.Ask.TheVariants as ask
 use Rattle.history.specs.declared.ask.MachineEnd.{MachineEnd}
@@ -29,6 +29,7 @@ use Rattle.runs.specs.Parts.{Answers}
 use Rattle.source_sem.specs.Env.{Env, blank, value_in}
 use Rattle.ir_ast.specs.Numbers.{function_place}
 use Rattle.source_sem.specs.Source.{Setting, Source, Frame, Doing, Ready, Entering, Copying, Waiting, Retagging, Leaving, ValueFits, frames_type, source_start, source_child, source_ask, source_turn, source_answer, source_fits}
+use Rattle.source_sem.specs.Starting.{ArgsFit}
 use Rattle.source_sem.specs.Parts.{number_in}
 use Rattle.source_words.specs.Typing.{HasType, DestHolds, InstTyped, JumpTyped}
 
@@ -42,13 +43,6 @@ HoldsFit p K (handle name) v = K (function_place p.functions name) v.value
 -- each register holds what its first definition says; one without a value reads as 0, which every type has
 abbrev pub EnvFits : Program → (ℕ → ℕ → Type 0) → Function → Env → Type 0
 EnvFits p K g env = (r : List ℕ) (h : Holds) → held (function_events g) r ≡ Some h → HoldsFit p K h (value_in env r)
-
--- arguments of their parameters' types
-abbrev pub ArgsFit : List Param → List Arg → Type 0
-ArgsFit [] [] = Unit {0}
-ArgsFit [] (a ∷ args) = ⊥
-ArgsFit (p ∷ ps) [] = ⊥
-ArgsFit (p ∷ ps) (a ∷ args) = ValueFits p.ty a × ArgsFit ps args
 
 -- a value of a result's type, and nothing where there is no result
 abbrev pub ResultFits : Option Ty → Arg → Type 0
@@ -139,11 +133,16 @@ pub record WordLaw (x : Setting) (K : ℕ → ℕ → Type 0) : Type 0 where
   pub pieces : (last : Option Ty) (s : Source) (a : AllocNo) (r : Request) → SourceFits x.program K last s → source_ask x s ≡ ask.At a r → PieceFits r
   pub hosts : (last : Option Ty) (s : Source) (n a b : ℕ) → SourceFits x.program K last s → source_ask x s ≡ ask.Host n a b → (a < 2 ^ 64) × (b < 2 ^ 64)
 
--- where a list says which function each thread runs: c is 0, or the number of a thread that runs function k
-abbrev pub Runs : (ℕ → Option ℕ) → ℕ → ℕ → Type 0
-Runs functions k c = (c ≡ 0) ⊎ ((functions c ≡ Some k) × (c < 2 ^ 32))
+-- thread 0 counts as a thread of each function, since a handle without a value reads as 0; and numbers of threads have 32 bits
+pub record AreNumbers (K : ℕ → ℕ → Type 0) : Type 0 where
+  pub main : (k : ℕ) → K k 0
+  pub short : (k c : ℕ) → K k c → c < 2 ^ 32
 
--- so it is in an accepted program whose input is one of bytes
+-- which threads run which functions, by a test
+abbrev pub Passes : (ℕ → ℕ → Bool) → ℕ → ℕ → Type 0
+Passes runs k c = runs k c ≡ true
+
+-- so it is in an accepted program whose input is one of bytes, whatever is said of which threads run which functions
 abbrev pub AcceptedProgramsKeepWords : Type 0
 AcceptedProgramsKeepWords =
-    (x : Setting) (hosts : HostTable) (functions : ℕ → Option ℕ) → IsProgram x.program → IsAccepted x.program hosts → Each (λ b. b < 256) x.input → WordLaw x (Runs functions)
+    (x : Setting) (hosts : HostTable) (runs : ℕ → ℕ → Bool) → IsProgram x.program → IsAccepted x.program hosts → Each (λ b. b < 256) x.input → AreNumbers (Passes runs) → WordLaw x (Passes runs)

@@ -2,8 +2,8 @@
 ghost use Rattle.source_words.specs.Invariant.{AcceptedProgramsKeepWords};
 
 /// Where no rule is broken, each register of each frame holds a word of its type, with a provenance only where it
-/// is a pointer; a handle holds the number of a thread that runs its function; each child's arguments fit its
-/// parameters; and what a thread returns fits its function's result.
+/// is a pointer; a handle holds the number of a thread that is said to run its function; each child's arguments fit
+/// its parameters; and what a thread returns fits its function's result.
 pub fn accepted_programs_keep_words()
     ensures { AcceptedProgramsKeepWords }
 {}
@@ -16,11 +16,11 @@ pub fn allocations_answer_words()
     ensures { AllocationLaw }
 {}
 
-ghost use Rattle.source_words.specs.Worlds.{RepliesAlwaysFit, ReplaysNeedNoPremise};
+ghost use Rattle.source_words.specs.Worlds.{RepliesAlwaysFit, ReplaysLeaveRightRecords};
 
 /// In every run of an accepted program each thread is given a reply that fits what it asked; so a replay of it leaves a
-/// right record, its erasure aside.
+/// right record.
 pub fn replies_always_fit()
     ensures fits { RepliesAlwaysFit }
-    ensures replays { ReplaysNeedNoPremise }
+    ensures replays { ReplaysLeaveRightRecords }
 {}

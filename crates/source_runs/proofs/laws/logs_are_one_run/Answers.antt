@@ -7,7 +7,7 @@ use Rattle.runs.proofs.Prefixes.{prefix_runs}
 use Rattle.runs.proofs.ObjectLaws.{objects_make_alone}
 use Rattle.runs.proofs.ReplayRight.{replay_is_right}
 use Rattle.std.proofs.Common.{refl}
-use Rattle.source_runs.specs.Setting.{main_of, main_start}
+use Rattle.source_sem.specs.Starting.{main_of, main_start}
 use Rattle.source_sem.specs.Source.{source}
 use Rattle.source_runs.specs.Setting.{allowed}
 use Rattle.source_runs.proofs.laws.logs_are_one_run.Goals as goal
