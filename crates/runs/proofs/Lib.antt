@@ -16,6 +16,7 @@ pub mod FiberLists
 pub mod ReplayState
 pub mod ReplayStep
 pub mod ReplayGoes
+pub mod Resting
 pub mod ReplaySums
 pub mod ReplayPicks
 pub mod ReplayRight

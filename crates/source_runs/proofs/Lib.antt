@@ -4,3 +4,4 @@ pub mod SiblingRuns
 pub mod OwnLimits
 pub mod LegalHistories
 pub mod Reporting
+pub mod ReplayRuns

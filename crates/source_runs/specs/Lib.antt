@@ -5,3 +5,4 @@ pub mod ErasureLaw
 pub mod Sibling
 pub mod Histories
 pub mod Reportable
+pub mod Replays

@@ -2,6 +2,7 @@
 ghost use Rattle.source_runs.specs.ErasureLaw.{ErasureIsARun, RightRecordsErase};
 ghost use Rattle.source_runs.specs.Histories.{HistoriesAreLegal};
 ghost use Rattle.source_runs.specs.Laws.{LogsAreOneRun, PromisesAreOneRun, BeginningsAreRuns, ReplaysAreRight};
+ghost use Rattle.source_runs.specs.Replays.{ReplaysByExample};
 ghost use Rattle.source_runs.specs.Reportable.{RightRecordsAreReportable};
 ghost use Rattle.source_runs.specs.Sibling.{IsErasedRun};
 ghost use Rattle.source_runs.specs.TwoThreads.{IsMet, EachIsNeeded};
@@ -39,4 +40,10 @@ pub fn histories_are_legal()
 /// A right record is one of which a report can be made.
 pub fn right_records_are_reportable()
     ensures { RightRecordsAreReportable }
+{}
+
+/// Worked replays: a load before and behind a write through a retagged pointer, by two schedules;
+/// and a thread that ends with its last step, so that its joiner goes on in its next pick.
+pub fn replays_by_example()
+    ensures { ReplaysByExample }
 {}
