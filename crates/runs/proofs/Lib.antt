@@ -25,3 +25,6 @@ pub mod PlainMemory
 pub mod RightMerges
 pub mod RightErases
 pub mod MergesAgree
+pub mod Weights
+pub mod LogLists
+pub mod Countings

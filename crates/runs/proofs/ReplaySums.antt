@@ -227,15 +227,15 @@ new_total : (M : Machine) (h : Fiber M → ℕ) (t : ℕ) (child : M.State) (r :
 new_total M h t child (request.Spawn k) fs none = let more = total_more h fs (record { parent = Some (record { 0 = t }); function = k; state = child; entries = []; «end» = None }) in let n = none k in omega (arith, more, n)
 new_total M h t child _ fs none = ap (total h) (append-nil fs)
 
-is_make_is : (e : Entry) (r : Request) → is_make (record e { request = r }) ≡ makes r
+pub is_make_is : (e : Entry) (r : Request) → is_make (record e { request = r }) ≡ makes r
 is_make_is e (request.Make size place) = refl
 is_make_is e _ = refl
 
-abbrev spawns : Request → Bool
+abbrev pub spawns : Request → Bool
 spawns (request.Spawn f) = true
 spawns other = false
 
-is_spawn_is : (e : Entry) (r : Request) → is_spawn (record e { request = r }) ≡ spawns r
+pub is_spawn_is : (e : Entry) (r : Request) → is_spawn (record e { request = r }) ≡ spawns r
 is_spawn_is e (request.Spawn f) = refl
 is_spawn_is e _ = refl
 
