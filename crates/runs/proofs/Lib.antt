@@ -28,3 +28,5 @@ pub mod MergesAgree
 pub mod Weights
 pub mod LogLists
 pub mod Countings
+pub mod WholeParts
+pub mod WholeRuns
