@@ -27,12 +27,12 @@ use Rattle.runs.specs.Parts.{names, of_alloc, of_thread, child_of, spawned_by, s
 use Rattle.runs.specs.ReplayLaw.{makes, MakesAlone}
 use Rattle.runs.specs.Right.{HasLog, NumbersRiseFrom, HasThreads, HasRuns, HasHistories, HasCounts, MergesToRun, IsRight, IsReached, is_main, is_spawned, end_of, history_of, starts_thread, beyond, beyond_of, counting_from, alloc_numbers, thread_numbers, made_by, spawned_by_reply, alloc_limit_of, thread_limit_of, is_make, is_spawn, asks_make, asks_spawn, StandsAsking, AtLeast, DrawnAtMost}
 use Rattle.runs.specs.Stamps.{Has, RisesFrom}
-use Rattle.runs.specs.Theorem.{HasPromises, WholeRunsAreRight}
+use Rattle.runs.specs.Theorem.{HasPromises, WholeRunsAreRight, NumbersDiffer}
 use Rattle.runs.specs.Threads.{EndsAs}
 use Rattle.runs.specs.Tree.{HasStampOrder, IsEntryRight, all_entries, numbers_of, stamps_of, started_by, children_of, IsStarted, AreRuns, IsTree, IsWholeRun}
 use Rattle.runs.proofs.Assembly.{promises_make_one_run}
 use Rattle.runs.proofs.Counting.{one_if, one_passes, count_there, length_with}
-use Rattle.runs.proofs.Countings.{length_counting, counting_once, counting_high, counting_split, up_to, above, one, low_up_to, low_above, high_up_to, high_above, counting_up_to, counting_beyond, counting_not_above, counting_above, Cut, cut, some_drawn}
+use Rattle.runs.proofs.Countings.{length_counting, counting_once, counting_zero, once_differ, counting_high, counting_split, up_to, above, one, low_up_to, low_above, high_up_to, high_above, counting_up_to, counting_beyond, counting_not_above, counting_above, Cut, cut, some_drawn}
 use Rattle.runs.proofs.Differing.{in_part}
 use Rattle.runs.proofs.FiberLists.{drawn_moved}
 use Rattle.runs.proofs.LogLists.{moved, flat_moved, entries_moved, numbers_moved, weigh_merged, weigh_children, log_weighs, some_log, number_there, number_once, one_log, entries_there, end_there, at_least_moved}
@@ -41,8 +41,8 @@ use Rattle.runs.proofs.Merges.{restrictions_swap, alloc_rises}
 use Rattle.runs.proofs.ReplaySums.{is_make_is, is_spawn_is, spawns}
 use Rattle.runs.proofs.RightMerges.{run_own}
 use Rattle.runs.proofs.Tying.{in_merge, log_of_entry, starts_one}
-use Rattle.runs.proofs.Weights.{equals, equals_same, equals_other, sum_same, sum_ones, same_entries, weights_tell_numbers}
-use Rattle.runs.proofs.WholeParts.{first_in, first_agrees, first_none, starts_weigh, entries_weigh, list_less, stamps_weigh, beyond_weigh, nothing_weighs, zero_weigh, once_may_merge, numbers_count, run_made, run_spawned, few_made, few_spawned, history_outside, sum_alloc, legal_unmade}
+use Rattle.runs.proofs.Weights.{equals, equals_same, equals_other, sum_flat, sum_same, sum_ones, same_entries, weights_tell_numbers}
+use Rattle.runs.proofs.WholeParts.{child_named, first_in, first_agrees, first_none, starts_weigh, entries_weigh, list_less, stamps_weigh, beyond_weigh, nothing_weighs, zero_weigh, once_may_merge, numbers_count, run_made, run_spawned, few_made, few_spawned, history_outside, sum_alloc, legal_unmade}
 
 some_number : (a b : AllocNo) → Some a ≡ Some b → a ≡ b
 some_number a b h = cc
@@ -480,3 +480,38 @@ module _ (M : Machine) (O : Memory) (A : Allowed) (limits : Limits) (main : ℕ)
 
 pub whole_runs_are_right : (M : Machine) (O : Memory) (A : Allowed) → WholeRunsAreRight M O A
 whole_runs_are_right M O A limits main start logs kept lim laws w p rise = right_record M O A limits main start logs kept lim laws w p rise
+
+-- numbers of threads -----------------------------------------------------------------------------
+
+children_named : (h : ℕ → ℕ) (ls : List ThreadLog) → sum_by h (flat_map children_of ls) ≤ sum_by h (flat_map thread_numbers ls)
+children_named h [] = omega arith
+children_named h (l ∷ ls) =
+    let more = children_named h ls in
+    let here = list_less (λ (e : Entry). sum_by h (started_by (child_of e))) (λ (e : Entry). sum_by h (spawned_by_reply e.reply.plain)) l.entries (λ e g. child_named h e.request e.reply.plain) in
+    omega (arith, more, here, sum_by-append h (children_of l) (flat_map children_of ls), sum_by-append h (thread_numbers l) (flat_map thread_numbers ls),
+    sum_flat h (λ (e : Entry). started_by (child_of e)) l.entries, sum_flat h (λ (e : Entry). spawned_by_reply e.reply.plain) l.entries,
+    sum_by-append h (flat_map (λ (e : Entry). spawned_by_reply e.reply.plain) l.entries) (thread_limit_of l.«end»))
+
+pub numbers_differ : (M : Machine) (O : Memory) (A : Allowed) → NumbersDiffer M O A
+numbers_differ M O A limits main start logs allocs words w = once_differ (numbers_of logs) once_here
+  where
+    below_few : (c : ℕ) → sum_by (equals c) (numbers_of w.tree.below) ≤ sum_by (equals c) (counting_from 1 words.threads)
+    below_few c =
+        let a = w.tree.children (equals c) in
+        let b = children_named (equals c) logs in
+        let d = w.threads_drawn (equals c) in
+        omega (arith, a, b, d, sum_by-append (equals c) (flat_map thread_numbers logs) w.idle_threads)
+
+    all : (c : ℕ) → sum_by (equals c) (numbers_of logs) ≡ equals c 0 + sum_by (equals c) (numbers_of w.tree.below)
+    all c =
+        ap (λ xs. sum_by (equals c) (numbers_of xs)) w.tree.parts ∙ sum_by-cons (equals c) w.tree.own.number.0 (numbers_of w.tree.below)
+        ∙ ap (λ (n : ThreadNo). equals c n.0 + sum_by (equals c) (numbers_of w.tree.below)) w.tree.own_number
+
+    once_here : (c : ℕ) → sum_by (equals c) (numbers_of logs) ≤ 1
+    once_here zero = let a = all 0 in let b = below_few 0 in let d = counting_zero 1 words.threads (omega arith) in let e = equals_same 0 in omega (arith, a, b, d, e)
+    once_here (suc c) =
+        let a = all (suc c) in
+        let b = below_few (suc c) in
+        let d = counting_once (suc c) 1 words.threads in
+        let e = equals_other (suc c) 0 (λ same. omega (arith, same)) in
+        omega (arith, a, b, d, e)

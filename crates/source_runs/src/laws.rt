@@ -1,7 +1,7 @@
 //! What holds of all runs. The functions do nothing: each contract is a law.
 ghost use Rattle.source_runs.specs.ErasureLaw.{ErasureIsARun, RightRecordsErase};
 ghost use Rattle.source_runs.specs.Histories.{HistoriesAreLegal};
-ghost use Rattle.source_runs.specs.Laws.{LogsAreOneRun, PromisesAreOneRun, BeginningsAreRuns, ReplaysAreRight};
+ghost use Rattle.source_runs.specs.Laws.{LogsAreOneRun, PromisesAreOneRun, BeginningsAreRuns, ReplaysAreRight, WholeRunsLeaveRightRecords, ThreadsDiffer};
 ghost use Rattle.source_runs.specs.Replays.{ReplaysByExample};
 ghost use Rattle.source_runs.specs.Reportable.{RightRecordsAreReportable};
 ghost use Rattle.source_runs.specs.Sibling.{IsErasedRun};
@@ -46,4 +46,12 @@ pub fn right_records_are_reportable()
 /// and a thread that ends with its last step, so that its joiner goes on in its next pick.
 pub fn replays_by_example()
     ensures { ReplaysByExample }
+{}
+
+/// What a run's threads answer, its tree of logs, with all that was drawn and the closed logs of
+/// allocations, makes a right record, once the logs are in the order of their numbers, which
+/// differ.
+pub fn whole_runs_are_right()
+    ensures records { WholeRunsLeaveRightRecords }
+    ensures differ { ThreadsDiffer }
 {}
