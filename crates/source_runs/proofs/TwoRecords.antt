@@ -1,11 +1,12 @@
 -- The record of two threads keeps every promise, and each promise is needed.
-use Rattle.std.proofs.Common.{◌≡◌, ℕ, zero, suc, ◌+◌, ◌<◌, ◌≤◌, Bool, true, false, List, [], ◌∷◌, refl, sym, ◌∙◌, ap, subst, ◌≢◌, inl, inr, arith, length}
+use Rattle.std.proofs.Common.{◌≡◌, ℕ, zero, suc, ◌+◌, ◌<◌, ◌≤◌, Bool, true, false, List, [], ◌∷◌, refl, sym, ◌∙◌, ap, subst, ◌≢◌, inl, inr, arith, length, sum_by}
 use Rattle.std.specs.Prelude.{Some, None, count_by, ◌==◌, ◌⊎◌}
 use Rattle.std.specs.List.{IsDistinct}
 use Rattle.std.proofs.lemmas.Bool.{true≢false}
 use Rattle.std.proofs.lemmas.Bool.Decides.{eqb_tells}
 use Rattle.std.proofs.lemmas.List.Elements.{All-from_recursion}
 use Rattle.std.proofs.lemmas.List.Sorted.{IsPermutation-refl}
+use Rattle.std.proofs.lemmas.List.Sums.{sum_by-cons}
 use Rattle.bsan_ids.specs.declared.numbers.AllocNo.{AllocNo}
 use Rattle.bsan_ids.specs.declared.numbers.Prov.{Prov}
 use Rattle.std.specs.declared.option.Option.{Option}
@@ -31,10 +32,11 @@ use Rattle.runs.specs.Merge.{merged, MayMerge, no_logs, one_more, entries_of}
 use Rattle.runs.specs.Objects.{objects}
 use Rattle.runs.specs.Stamps.{Has, RisesFrom}
 use Rattle.runs.specs.Right.{HasLog, HasThreads, HasRuns, HasHistories, HasCounts, IsSpawnedOnce, starts_thread, IsReached, is_main, is_spawned, AllocsRiseFrom, history_of, end_of}
-use Rattle.runs.specs.Tree.{IsEntryRight}
+use Rattle.runs.specs.Tree.{IsEntryRight, EndAbove, IsFamily, IsStarted, IsJoined, IsStepRight, Agrees, AreRuns, IsClosedHistory, IsWholeRun}
 use Rattle.runs.proofs.Assembly.{promises_make_one_run}
 use Rattle.runs.proofs.Counting.{one_if, weigh_with}
 use Rattle.runs.proofs.MergeLaws.{in_merged_with}
+use Rattle.runs.proofs.Feeding.{run_agree}
 use Rattle.runs.proofs.Order.{none_is_some}
 use Rattle.source_sem.specs.Source.{Source, source, source_ask, source_turn, source_answer, source_child}
 use Rattle.source_sem.specs.Traces.{alloc}
@@ -606,9 +608,155 @@ right_counts = record {
   spawned_differ = (tt, tt);
 }
 
+-- the whole run --------------------------------------------------------------------------------
+
+step_on : (z : Entry) (n : ℕ) → z.alloc ≡ Some (alloc n) → 0 < n → n ≤ limits.allocs → IsEntryRight (allowed limits no_hosts) z z.request → z.stamp.0 ≤ limits.steps → IsStepRight objects (allowed limits no_hosts) limits z
+step_on z n at low high right_ less = record { right = right_; within = less; outside = λ a is out. (let same : alloc n ≡ a = some_alloc (sym at ∙ is) in by_side out (ap (λ (b : AllocNo). b.0) same)) }
+  where
+    some_alloc : {b c : AllocNo} → Some b ≡ Some c → b ≡ c
+    some_alloc h = cc
+
+    by_side : {a : ℕ} {B : Type 0} → (a ≡ 0) ⊎ (limits.allocs < a) → n ≡ a → B
+    by_side (inl z) same = absurd (omega (arith, z, same, low))
+    by_side (inr more) same = absurd (omega (arith, more, same, high))
+
+step_off : (z : Entry) → z.alloc ≡ None → IsEntryRight (allowed limits no_hosts) z z.request → z.stamp.0 ≤ limits.steps → IsStepRight objects (allowed limits no_hosts) limits z
+step_off z at right_ less = record { right = right_; within = less; outside = λ a is out. absurd (none_some (sym at ∙ is)) }
+  where
+    none_some : {a : AllocNo} → None ≡ Some a → ⊥
+    none_some h = cc
+
+small : (n : ℕ) → n < 1000 → n ≤ limits.steps
+small n less = omega (arith, less)
+
+whole_steps : (log : ThreadLog) (e : Entry) → HasLog (thread_logs right) log → Has log.entries e → IsStepRight objects (allowed limits no_hosts) limits e
+whole_steps log e in_log in_e = for_logs right (λ l. Has l.entries e → IsStepRight objects (allowed limits no_hosts) limits e)
+    (λ h. for_main right (IsStepRight objects (allowed limits no_hosts) limits)
+    (step_on make_x 1 refl (omega arith) (omega arith) (alloc 1, refl, omega arith, omega arith) (small 1 (omega arith)))
+    (step_on make_y 2 refl (omega arith) (omega arith) (alloc 2, refl, omega arith, omega arith) (small 2 (omega arith)))
+    (step_off (spawn_f right) refl (record { 0 = 1 }, omega arith, omega arith, refl) (small 3 (omega arith)))
+    (step_on (store_y right) 2 refl (omega arith) (omega arith) (alloc 2, refl) (small 4 (omega arith)))
+    (step_off (join_f right) refl (omega arith, refl) (small 6 (omega arith))) e h)
+    (λ h. for_child right (IsStepRight objects (allowed limits no_hosts) limits) (step_on (store_x right) 1 refl (omega arith) (omega arith) (alloc 1, refl) (small 5 (omega arith))) e h)
+    log in_log in_e
+
+only_child : (log : ThreadLog) → HasLog (child_log right ∷ []) log → (P : ThreadLog → Type 0) → P (child_log right) → P log
+only_child log (inl is) P h = subst P is h
+only_child log (inr more) P h = absurd more
+
+child_family : IsFamily (thread_logs right) (child_log right) (child_log right ∷ [])
+child_family = record {
+  own = inl refl;
+  among = λ log h. inr h;
+  closed = λ log e c in_log in_e is. only_child log in_log (λ l. Has l.entries e → (child : ThreadLog) × HasLog (child_log right ∷ []) child × (child.number.0 ≡ c))
+      (λ h. for_child right (λ z. child_of z ≡ Some c → (child : ThreadLog) × HasLog (child_log right ∷ []) child × (child.number.0 ≡ c)) (λ k. absurd (none_is_some c k)) e h is) in_e;
+}
+
+child_started : IsStarted (thread_logs right) (child_log right)
+child_started = record {
+  parent = main_log right;
+  there = inl refl;
+  names_parent = refl;
+  above = omega arith;
+  spawn = spawn_f right;
+  stands = inr (inr (inl refl));
+  request = refl;
+  answers = refl;
+  family = child_log right ∷ [];
+  is_family = child_family;
+  later = λ log h. only_child log h (λ l. RisesFrom 3 l.entries × EndAbove 3 l.«end») ((omega arith, tt), tt);
+}
+
+child_joined : (log : ThreadLog) (e : Entry) (c : ThreadNo) → HasLog (thread_logs right) log → Has log.entries e → e.request ≡ request.Join c → IsJoined (thread_logs right) log.entries e c
+child_joined log e c in_log in_e is = for_logs right (λ l. Has l.entries e → IsJoined (thread_logs right) l.entries e c)
+    (λ h. for_main right Q (no_join _ c refl) (no_join _ c refl) (no_join _ c refl) (no_join _ c refl) joined e h is)
+    (λ h. for_child right (λ z. z.request ≡ request.Join c → IsJoined (thread_logs right) (child_log right).entries z c) (no_join _ c refl) e h is) log in_log in_e
+  where
+    Q : Entry → Type 0
+    Q z = z.request ≡ request.Join c → IsJoined (thread_logs right) (main_log right).entries z c
+
+    joined : Q (join_f right)
+    joined k =
+        let c_is : record { 0 = 1 } ≡ c = join_inj (record { 0 = 1 }) c k in
+        record {
+          child = child_log right;
+          number = c_is;
+          word = 0;
+          value = refl;
+          returned = refl;
+          spawn = spawn_f right;
+          stands = inr (inr (inl refl));
+          answers = ap (λ (n : ThreadNo). Some n.0) c_is;
+          after_spawn = omega arith;
+          family = child_log right ∷ [];
+          is_family = child_family;
+          earlier = λ l y h g. only_child l h (λ m. Has m.entries y → y.stamp.0 < 6) (λ q. for_child right (λ z. z.stamp.0 < 6) (omega arith) y q) g;
+        }
+
+whole_runs : (others : ℕ → Source) → others 0 ≡ start → Agrees others ((1, c0) ∷ []) → AreRuns (source x) limits others (thread_logs right) [] []
+whole_runs others first same = record {
+  each = for_logs right (λ log. IsThreadRun (source x) limits others log)
+      (run_agree (source x) limits starts others (main_log right) (sym first)
+      (λ e c h is. for_main right (λ z. child_of z ≡ Some c → starts c ≡ others c) none none (λ k. started k) none none e h is) (main_run right right_order))
+      (run_agree (source x) limits starts others (child_log right) (sym same.0)
+      (λ e c h is. for_child right (λ z. child_of z ≡ Some c → starts c ≡ others c) none e h is) (child_run right right_order));
+  made = tt;
+  spawned = tt;
+}
+  where
+    none : {c : ℕ} → None ≡ Some c → starts c ≡ others c
+    none {c} k = absurd (none_is_some c k)
+
+    started : {c : ℕ} → Some 1 ≡ Some c → starts c ≡ others c
+    started {c} k = subst (λ n. starts n ≡ others n) (one_is k) (sym same.0)
+      where
+        one_is : Some 1 ≡ Some c → 1 ≡ c
+        one_is h = cc
+
+whole_stamps : (h : ℕ → ℕ) → sum_by h (1 ∷ 2 ∷ 3 ∷ 4 ∷ 6 ∷ 5 ∷ []) ≡ sum_by h (1 ∷ 2 ∷ 3 ∷ 4 ∷ 5 ∷ 6 ∷ [])
+whole_stamps h = omega (arith, sum_by-cons h 1 (2 ∷ 3 ∷ 4 ∷ 6 ∷ 5 ∷ []), sum_by-cons h 2 (3 ∷ 4 ∷ 6 ∷ 5 ∷ []), sum_by-cons h 3 (4 ∷ 6 ∷ 5 ∷ []), sum_by-cons h 4 (6 ∷ 5 ∷ []), sum_by-cons h 6 (5 ∷ []), sum_by-cons h 5 [],
+    sum_by-cons h 1 (2 ∷ 3 ∷ 4 ∷ 5 ∷ 6 ∷ []), sum_by-cons h 2 (3 ∷ 4 ∷ 5 ∷ 6 ∷ []), sum_by-cons h 3 (4 ∷ 5 ∷ 6 ∷ []), sum_by-cons h 4 (5 ∷ 6 ∷ []), sum_by-cons h 5 (6 ∷ []), sum_by-cons h 6 [])
+
+whole_histories : (a : ℕ) → 0 < a → a ≤ limits.allocs → IsClosedHistory objects (thread_logs right) a (history_of (alloc_logs right) a)
+whole_histories a low high =
+    let r = histories_rise right right_order in
+    let l = legal right refl in
+    by_alloc (λ n. IsClosedHistory objects (thread_logs right) n (history_of (alloc_logs right) n))
+    (record { rises = r 1; legal = l 1; exact = λ h. refl }) (record { rises = r 2; legal = l 2; exact = λ h. refl })
+    (λ n one two. record { rises = r n; legal = l n; exact = λ h. rw (one, two) refl }) a
+
+whole : IsWholeRun (source x) objects (allowed limits no_hosts) limits (main_of program) start (thread_logs right) (alloc_logs right) kept.words
+whole = record {
+  idle_allocs = [];
+  idle_threads = [];
+  tree = record {
+    own = main_log right;
+    below = child_log right ∷ [];
+    parts = refl;
+    own_number = refl;
+    own_parent = refl;
+    own_function = refl;
+    later = for_logs right (λ log. RisesFrom 0 log.entries × EndAbove 0 log.«end») (main_rises right right_order, tt) (child_rises right right_order, tt);
+    steps = whole_steps;
+    started = λ log h. only_child log h (IsStarted (thread_logs right)) child_started;
+    children = λ h. refl;
+    joined = child_joined;
+    ended = λ log c h is. absurd (for_logs right (λ l. l.«end» ≡ log_end.ChildEnded c → ⊥) (λ k. cc) (λ k. cc) log h is);
+    firsts = (1, c0) ∷ [];
+    firsts_below = λ h. refl;
+    runs = whole_runs;
+  };
+  stamps_drawn = whole_stamps;
+  allocs_drawn = λ h. refl;
+  threads_drawn = λ h. refl;
+  rise = all_numbers right;
+  histories = whole_histories;
+}
+
 pub met : IsMet
 met = record {
   promises = promises;
+  whole = whole;
   is_right = record {
     threads = threads right;
     runs = right_runs;

@@ -33,7 +33,7 @@ use Rattle.runs.specs.Right.{HasLog, HasThreads, MergesToRun, AllocsRiseFrom, hi
 use Rattle.runs.specs.Stamps.{Has, RisesFrom}
 use Rattle.runs.specs.Theorem.{HasPromises}
 use Rattle.runs.specs.Threads.{IsThreadRun}
-use Rattle.runs.specs.Tree.{IsEntryRight}
+use Rattle.runs.specs.Tree.{IsEntryRight, IsWholeRun}
 use Rattle.source_sem.specs.Source.{Source, Setting, source}
 use Rattle.source_sem.specs.Traces.{named, no_result, gives, ptr_param, reg, number, def, does, block, function, ret_void, ret_of, prov, alloc}
 use Rattle.source_sem.specs.Starting.{setting_of, main_name, main_of, main_start}
@@ -247,7 +247,8 @@ pub record EachIsNeeded : Type 0 where
   pub joined_value : BreaksAlone JoinedValue (thread_logs misjoined) (alloc_logs misjoined)
   pub joined_value_no_run : IsOneRun (thread_logs misjoined) → ⊥
 
--- the record keeps every promise, and is right
+-- the record keeps every promise, is that of a whole run, and is right
 pub record IsMet : Type 0 where
   pub promises : Promises (thread_logs right) (alloc_logs right)
+  pub whole : IsWholeRun (source x) objects (allowed limits no_hosts) limits (main_of program) start (thread_logs right) (alloc_logs right) kept.words
   pub is_right : IsRightFor program [] no_hosts limits kept
