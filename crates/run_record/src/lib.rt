@@ -4,6 +4,8 @@
 mod log;
 mod merge;
 mod record;
+mod tree;
 
-pub use log::{AllocLog, End, ThreadLog, ThreadTree};
+pub use log::{AllocLog, End, ThreadLog};
 pub use record::RunRecord;
+pub use tree::ThreadTree;

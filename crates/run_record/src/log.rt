@@ -28,13 +28,6 @@ pub struct ThreadLog {
     pub end: End,
 }
 
-/// A thread's log and those of the threads that it started.
-#[derive(Drop)]
-pub struct ThreadTree {
-    pub log: ThreadLog,
-    pub children: Vec<ThreadTree>,
-}
-
 /// The steps on an allocation, in the order of their stamps.
 #[derive(Drop)]
 pub struct AllocLog {

@@ -1,0 +1,63 @@
+//! A thread's log with those of all threads below it.
+ghost use Rattle.std.specs.Prelude.{◌≡◌, ◌∷◌, ◌++◌, IfOk};
+ghost use Rattle.run_record.specs.Flatten.{all_logs};
+
+use crate::log::ThreadLog;
+use bsan_ids::NoMemory;
+use std::marker::Model;
+
+/// A thread's log and those of the threads that it started. A contract sees the list of its logs:
+/// the thread's own, and then those of each child's tree.
+#[derive(Drop)]
+pub struct ThreadTree {
+    pub log: ThreadLog,
+    pub children: Vec<ThreadTree>,
+}
+
+impl Model for ThreadTree {
+    ghost use Rattle.std.specs.Prelude.{List, ◌∷◌, ℕ, length};
+    ghost use Rattle.std.proofs.Common.{arith};
+    ghost use Rattle.run_record.specs.declared.log.ThreadLog.{ThreadLog};
+    ghost use Rattle.run_record.specs.Flatten.{all_logs, most_le-length-all_logs};
+
+    ghost Value = { List ThreadLog };
+
+    ghost view = { λ a. a.log ∷ all_logs a.children.items };
+
+    ghost size = { length };
+
+    ghost size_decreases = { λ a h. Prim.omega (arith, most_le-length-all_logs a.children.items) };
+}
+
+impl ThreadTree {
+    /// The tree of a thread's log over its children's trees.
+    pub fn new(log: ThreadLog, children: Vec<ThreadTree>) -> ThreadTree
+        ensures { result ≡ log ∷ all_logs children.items }
+    {
+        ThreadTree { log, children }
+    }
+
+    #[cycle(logs)]
+    /// Takes the tree apart and appends its logs.
+    ///
+    /// # Errors
+    ///
+    /// `NoMemory`: want of memory. The tree is given up.
+    pub fn into_logs(self, into: &mut Vec<ThreadLog>) -> Result<(), NoMemory>
+        ensures { IfOk result (λ done. into.new.items ≡ into.old.items ++ self) }
+    {
+        let ThreadTree { log, children } = self;
+        into.push(log)?;
+        append_logs(children, into)
+    }
+}
+
+#[cycle(logs)]
+fn append_logs(children: Vec<ThreadTree>, into: &mut Vec<ThreadLog>) -> Result<(), NoMemory>
+    ensures { IfOk result (λ done. into.new.items ≡ into.old.items ++ all_logs children.items) }
+{
+    for child in children {
+        child.into_logs(into)?;
+    }
+    Ok(())
+}
