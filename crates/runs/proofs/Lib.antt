@@ -30,3 +30,4 @@ pub mod LogLists
 pub mod Countings
 pub mod WholeParts
 pub mod WholeRuns
+pub mod Standing

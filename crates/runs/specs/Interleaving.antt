@@ -8,10 +8,9 @@ use Rattle.bsan_ids.specs.declared.numbers.ThreadNo.{ThreadNo}
 use Rattle.history.specs.declared.entry.Request.{Request}
 use Rattle.history.specs.declared.entry.Request.TheVariants as request
 use Rattle.history.specs.declared.entry.Plain.TheVariants as plain
-use Rattle.history.specs.declared.entry.Verdict.TheVariants as verdict
 use Rattle.history.specs.declared.ask.Ask.TheVariants as ask
 use Rattle.history.specs.declared.ask.MachineEnd.TheVariants as end
-use Rattle.runs.specs.Parts.{names, child_of, is_child, Answers}
+use Rattle.runs.specs.Parts.{clean, names, child_of, is_child, Answers}
 use Rattle.runs.specs.Machine.{Machine, Memory, Settles}
 
 -- the state of each started thread, and the object of each number
@@ -47,13 +46,13 @@ pub record Allowed : Type 1 where
 abbrev pub Replies : (M : Machine) → (O : Memory) → Allowed → World M O → Entry → Request → Type 0
 Replies M O A w e (request.Make size place) =
     (a : AllocNo) × (e.alloc ≡ Some a) × (0 < a.0) × (a.0 ≤ A.allocs) × (O.made (w.objects a.0) ≡ false) × (e.reply ≡ O.reply (w.objects a.0) e.request e.stamp.0)
-Replies M O A w e (request.Print v) = e.reply ≡ record { plain = plain.Done; carried = None; verdict = verdict.Clean }
+Replies M O A w e (request.Print v) = e.reply ≡ clean plain.Done None
 Replies M O A w e (request.Host n x y) =
-    (v : ℕ) × A.host n x y v × (e.reply ≡ record { plain = plain.Value v; carried = None; verdict = verdict.Clean })
+    (v : ℕ) × A.host n x y v × (e.reply ≡ clean (plain.Value v) None)
 Replies M O A w e (request.Spawn f) =
-    (c : ThreadNo) × (0 < c.0) × (c.0 ≤ 1023) × (w.threads c.0 ≡ None) × (e.reply ≡ record { plain = plain.Spawned c; carried = None; verdict = verdict.Clean })
+    (c : ThreadNo) × (0 < c.0) × (c.0 ≤ 1023) × (w.threads c.0 ≡ None) × (e.reply ≡ clean (plain.Spawned c) None)
 Replies M O A w e (request.Join c) =
-    (v : ℕ) × (p : Option Prov) × HasReturned M (w.threads c.0) v p × (e.reply ≡ record { plain = plain.Value v; carried = p; verdict = verdict.Clean })
+    (v : ℕ) × (p : Option Prov) × HasReturned M (w.threads c.0) v p × (e.reply ≡ clean (plain.Value v) p)
 Replies M O A w e _ = (a : AllocNo) × (e.alloc ≡ Some a) × (e.reply ≡ O.reply (w.objects a.0) e.request e.stamp.0)
 
 -- in this world the entry may come next

@@ -16,8 +16,7 @@ use Rattle.history.specs.declared.entry.Request.TheVariants as request
 use Rattle.bsan_ids.specs.declared.numbers.ThreadNo.{ThreadNo}
 use Rattle.history.specs.declared.trap.Trap.{Trap}
 use Rattle.history.specs.declared.trap.Trap.TheVariants as trap
-use Rattle.history.specs.declared.entry.Verdict.TheVariants as verdict
-use Rattle.runs.specs.Parts.{Answers}
+use Rattle.runs.specs.Parts.{clean, Answers}
 use Rattle.runs.specs.Machine.{Machine, Memory, MayGoOn, SettlesWithin}
 use Rattle.runs.specs.Threads.{AsksStep, AsksMake, AsksSpawn, IsOwnTrap, EndsAs}
 use Rattle.runs.specs.Interleaving.{Allowed}
@@ -95,13 +94,13 @@ EndsNext M O limits p a e = Unit {0}
 abbrev pub RepliesNext : (M : Machine) → (O : Memory) → Allowed → Progress M O → Entry → Request → Type 0
 RepliesNext M O A p e (request.Make size place) =
     (e.alloc ≡ Some (record { 0 = p.words.allocs + 1 })) × (e.reply ≡ O.reply (object_at M O p (p.words.allocs + 1)) e.request e.stamp.0)
-RepliesNext M O A p e (request.Print v) = e.reply ≡ record { plain = plain.Done; carried = None; verdict = verdict.Clean }
+RepliesNext M O A p e (request.Print v) = e.reply ≡ clean plain.Done None
 RepliesNext M O A p e (request.Host n x y) =
-    (v : ℕ) × A.host n x y v × (e.reply ≡ record { plain = plain.Value v; carried = None; verdict = verdict.Clean })
+    (v : ℕ) × A.host n x y v × (e.reply ≡ clean (plain.Value v) None)
 RepliesNext M O A p e (request.Spawn f) =
-    e.reply ≡ record { plain = plain.Spawned (record { 0 = p.words.threads + 1 }); carried = None; verdict = verdict.Clean }
+    e.reply ≡ clean (plain.Spawned (record { 0 = p.words.threads + 1 })) None
 RepliesNext M O A p e (request.Join c) =
-    (v : ℕ) × (q : Option Prov) × (end_at M O p c.0 ≡ Some (log_end.Returned v q)) × (e.reply ≡ record { plain = plain.Value v; carried = q; verdict = verdict.Clean })
+    (v : ℕ) × (q : Option Prov) × (end_at M O p c.0 ≡ Some (log_end.Returned v q)) × (e.reply ≡ clean (plain.Value v) q)
 RepliesNext M O A p e _ = (a : AllocNo) × (e.alloc ≡ Some a) × (e.reply ≡ O.reply (object_at M O p a.0) e.request e.stamp.0)
 
 abbrev pub Chooses : (M : Machine) → (O : Memory) → Allowed → Limits → Progress M O → ℕ → Fiber M → Choice M → Type 0

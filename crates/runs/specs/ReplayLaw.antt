@@ -2,6 +2,7 @@
 use Rattle.std.specs.Prelude.{◌≡◌, ℕ, zero, suc, Bool, true, false, List, [], ◌∷◌, None, unwrap_or}
 use Rattle.bsan_ids.specs.declared.numbers.Limits.{Limits}
 use Rattle.history.specs.declared.entry.Entry.{Entry}
+pub use Rattle.history.specs.Histories.{is_make as makes}
 use Rattle.history.specs.declared.entry.Plain.TheVariants as plain
 use Rattle.history.specs.declared.entry.Request.{Request}
 use Rattle.history.specs.declared.entry.Request.TheVariants as request
@@ -52,10 +53,6 @@ histories_from a (suc more) entries = with_history a (of_alloc a entries) (histo
 
 abbrev pub record_of : (M : Machine) → (O : Memory) → Limits → Progress M O → RunRecord
 record_of M O limits p = record { threads = logs_from M 0 p.threads; allocs = histories_from 1 limits.allocs p.merge; words = p.words }
-
-abbrev pub makes : Request → Bool
-makes (request.Make size place) = true
-makes other = false
 
 -- nothing is made but by a Make, which answers its number; and no object starts a thread
 pub record MakesAlone (O : Memory) : Type 0 where

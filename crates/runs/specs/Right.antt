@@ -9,6 +9,7 @@ use Rattle.bsan_ids.specs.declared.numbers.Counters.{Counters}
 use Rattle.run_record.specs.declared.log.End.{End}
 use Rattle.run_record.specs.declared.log.End.TheVariants as log_end
 use Rattle.history.specs.declared.entry.Entry.{Entry}
+use Rattle.history.specs.Histories as histories
 use Rattle.bsan_ids.specs.declared.numbers.Limits.{Limits}
 use Rattle.history.specs.declared.ask.MachineEnd.TheVariants as end
 use Rattle.history.specs.declared.entry.Plain.{Plain}
@@ -163,10 +164,7 @@ abbrev pub thread_numbers : ThreadLog → List ℕ
 thread_numbers log = flat_map (λ e. spawned_by_reply e.reply.plain) log.entries ++ thread_limit_of log.«end»
 
 abbrev pub is_make : Entry → Bool
-is_make e = is_make_request e.request where
-  is_make_request : Request → Bool
-  is_make_request (request.Make size place) = true
-  is_make_request _ = false
+is_make e = histories.is_make e.request
 
 abbrev pub is_spawn : Entry → Bool
 is_spawn e = is_spawn_request e.request where

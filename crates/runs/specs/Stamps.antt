@@ -10,8 +10,7 @@ use Rattle.bsan_ids.specs.declared.numbers.ThreadNo.{ThreadNo}
 use Rattle.history.specs.declared.entry.Request.{Request}
 use Rattle.history.specs.declared.entry.Request.TheVariants as request
 use Rattle.history.specs.declared.entry.Plain.TheVariants as plain
-use Rattle.history.specs.declared.entry.Verdict.TheVariants as verdict
-use Rattle.runs.specs.Parts.{child_of}
+use Rattle.runs.specs.Parts.{clean, child_of}
 use Rattle.runs.specs.Interleaving.{Allowed}
 
 -- the entry is one of these
@@ -31,13 +30,13 @@ SpawnedBefore entries t e = (s : Entry) × Has entries s × (child_of s ≡ Some
 -- an entry among all entries
 abbrev pub StandsAmong : Allowed → (ℕ → End) → List Entry → Entry → Request → Type 0
 StandsAmong A ends entries e (request.Make size place) = (a : AllocNo) × (e.alloc ≡ Some a) × (0 < a.0) × (a.0 ≤ A.allocs)
-StandsAmong A ends entries e (request.Print v) = e.reply ≡ record { plain = plain.Done; carried = None; verdict = verdict.Clean }
+StandsAmong A ends entries e (request.Print v) = e.reply ≡ clean plain.Done None
 StandsAmong A ends entries e (request.Host n x y) =
-    (v : ℕ) × A.host n x y v × (e.reply ≡ record { plain = plain.Value v; carried = None; verdict = verdict.Clean })
+    (v : ℕ) × A.host n x y v × (e.reply ≡ clean (plain.Value v) None)
 StandsAmong A ends entries e (request.Spawn f) =
-    (c : ThreadNo) × (0 < c.0) × (c.0 ≤ 1023) × ((s : Entry) → Has entries s → child_of s ≡ Some c.0 → s.stamp.0 ≡ e.stamp.0) × (e.reply ≡ record { plain = plain.Spawned c; carried = None; verdict = verdict.Clean })
+    (c : ThreadNo) × (0 < c.0) × (c.0 ≤ 1023) × ((s : Entry) → Has entries s → child_of s ≡ Some c.0 → s.stamp.0 ≡ e.stamp.0) × (e.reply ≡ clean (plain.Spawned c) None)
 StandsAmong A ends entries e (request.Join c) =
-    (v : ℕ) × (p : Option Prov) × SpawnedBefore entries c.0 e × ((x : Entry) → Has entries x → x.thread.0 ≡ c.0 → x.stamp.0 < e.stamp.0) × (ends c.0 ≡ log_end.Returned v p) × (e.reply ≡ record { plain = plain.Value v; carried = p; verdict = verdict.Clean })
+    (v : ℕ) × (p : Option Prov) × SpawnedBefore entries c.0 e × ((x : Entry) → Has entries x → x.thread.0 ≡ c.0 → x.stamp.0 < e.stamp.0) × (ends c.0 ≡ log_end.Returned v p) × (e.reply ≡ clean (plain.Value v) p)
 StandsAmong A ends entries e _ = (a : AllocNo) × (e.alloc ≡ Some a)
 
 -- children start before their entries, once, and their entries are before each join of them

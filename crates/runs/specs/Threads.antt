@@ -1,5 +1,5 @@
 -- A thread's log is a run of its machine, with its end.
-use Rattle.std.specs.Prelude.{◌≡◌, ℕ, ◌<◌, true, List, [], ◌∷◌, Some, None, All, ◌⊎◌}
+use Rattle.std.specs.Prelude.{◌≡◌, ℕ, ◌+◌, ◌<◌, true, List, [], ◌∷◌, Some, None, All, ◌⊎◌}
 use Rattle.std.specs.declared.option.Option.{Option}
 use Rattle.history.specs.declared.entry.Entry.{Entry}
 use Rattle.run_record.specs.declared.log.End.{End}
@@ -34,6 +34,14 @@ pub record Fed (M : Machine) (limit : ℕ) (starts : ℕ → M.State) (s : M.Sta
 abbrev pub Feeds : (M : Machine) → ℕ → (ℕ → M.State) → M.State → List Entry → M.State → Type 0
 Feeds M limit starts s [] last = SettlesWithin M limit s last
 Feeds M limit starts s (e ∷ es) last = (f : Fed M limit starts s e) × Feeds M limit starts (M.after f.now e) es last
+
+-- each local turn is one instruction
+abbrev pub CountsTurns : Machine → Type 0
+CountsTurns M = (s : M.State) → M.ask s ≡ ask.Turn → M.count (M.turn s) ≡ M.count s + 1
+
+-- a thread that is fed these entries stands, at one count of instructions, in one state
+abbrev pub StandsOnce : (M : Machine) → ℕ → (ℕ → M.State) → Type 0
+StandsOnce M limit starts = (s a b : M.State) (es : List Entry) → Feeds M limit starts s es a → Feeds M limit starts s es b → M.count a ≡ M.count b → a ≡ b
 
 abbrev pub AsksStep : Ask → Type 0
 AsksStep ask.Turn = ⊥

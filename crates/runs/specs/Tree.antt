@@ -16,7 +16,7 @@ use Rattle.run_record.specs.declared.log.AllocLog.{AllocLog}
 use Rattle.run_record.specs.declared.log.End.{End}
 use Rattle.run_record.specs.declared.log.End.TheVariants as log_end
 use Rattle.run_record.specs.declared.log.ThreadLog.{ThreadLog}
-use Rattle.runs.specs.Parts.{child_of, of_alloc}
+use Rattle.runs.specs.Parts.{clean, child_of, of_alloc}
 use Rattle.runs.specs.Machine.{Machine, Memory}
 use Rattle.runs.specs.Interleaving.{Allowed, Legal}
 use Rattle.runs.specs.Threads.{IsThreadRun}
@@ -35,10 +35,10 @@ pub record HasStampOrder (logs : List ThreadLog) : Type 0 where
 -- what an entry says besides, by itself
 abbrev pub IsEntryRight : Allowed → Entry → Request → Type 0
 IsEntryRight A e (request.Make size place) = (a : AllocNo) × (e.alloc ≡ Some a) × (0 < a.0) × (a.0 ≤ A.allocs)
-IsEntryRight A e (request.Print v) = e.reply ≡ record { plain = plain.Done; carried = None; verdict = verdict.Clean }
-IsEntryRight A e (request.Host n x y) = (v : ℕ) × A.host n x y v × (e.reply ≡ record { plain = plain.Value v; carried = None; verdict = verdict.Clean })
+IsEntryRight A e (request.Print v) = e.reply ≡ clean plain.Done None
+IsEntryRight A e (request.Host n x y) = (v : ℕ) × A.host n x y v × (e.reply ≡ clean (plain.Value v) None)
 IsEntryRight A e (request.Spawn f) =
-    (c : ThreadNo) × (0 < c.0) × (c.0 ≤ 1023) × (e.reply ≡ record { plain = plain.Spawned c; carried = None; verdict = verdict.Clean })
+    (c : ThreadNo) × (0 < c.0) × (c.0 ≤ 1023) × (e.reply ≡ clean (plain.Spawned c) None)
 IsEntryRight A e (request.Join c) = (0 < c.0) × (e.reply.verdict ≡ verdict.Clean)
 IsEntryRight A e _ = (a : AllocNo) × (e.alloc ≡ Some a)
 

@@ -31,7 +31,8 @@ use Rattle.runs.proofs.Merges.{in_all}
 use Rattle.runs.proofs.MergeLaws.{merged_is_merge}
 use Rattle.runs.proofs.RightErases.{number_above}
 use Rattle.source_sem.specs.Source.{Setting, Source, source, source_ask}
-use Rattle.source_sem.specs.Traps.{IsOwnTrap, EndIsOwn, PlainIsOwn}
+use Rattle.runs.specs.Threads.{IsOwnTrap}
+use Rattle.source_sem.specs.Traps.{EndIsOwn, PlainIsOwn}
 use Rattle.source_sem.proofs.TrapLaws.{traps_are_own}
 use Rattle.source_sem.specs.Starting.{main_of, main_start}
 

@@ -24,7 +24,7 @@ use Rattle.history.specs.declared.entry.Verdict.TheVariants as verdict
 use Rattle.run_record.specs.declared.log.AllocLog.{AllocLog}
 use Rattle.run_record.specs.declared.log.End.TheVariants as log_end
 use Rattle.run_record.specs.declared.log.ThreadLog.{ThreadLog}
-use Rattle.runs.specs.Parts.{of_thread, of_alloc, names, child_of}
+use Rattle.runs.specs.Parts.{clean, of_thread, of_alloc, names, child_of}
 use Rattle.runs.specs.Machine.{TurnsTo}
 use Rattle.runs.specs.Threads.{IsThreadRun}
 use Rattle.runs.specs.Interleaving.{Event, HasReturned, Legal, World, first_world, world_after}
@@ -42,7 +42,7 @@ use Rattle.source_sem.specs.Source.{Source, source, source_ask, source_turn, sou
 use Rattle.source_sem.specs.Traces.{alloc}
 use Rattle.source_sem.specs.Starting.{main_of}
 use Rattle.source_runs.specs.Setting.{allowed}
-use Rattle.source_runs.specs.TwoThreads.{program, no_hosts, limits, x, clean, Told, make_x, make_y, spawn_f, store_y, store_x, join_f, main_log, child_log, thread_logs, alloc_logs, short_logs, right, early, late, twice, kept_away, misjoined, kept, start, Promises, IsOneRun, AfterSpawn, BeforeJoin, SpawnBeforeJoin, JoinsGiveResults, HasParts, Promise, same, Kept, Spawning, Joining, OneStamp, Restriction, JoinedValue, BreaksAlone, EachIsNeeded, IsMet}
+use Rattle.source_runs.specs.TwoThreads.{program, no_hosts, limits, x, Told, make_x, make_y, spawn_f, store_y, store_x, join_f, main_log, child_log, thread_logs, alloc_logs, short_logs, right, early, late, twice, kept_away, misjoined, kept, start, Promises, IsOneRun, AfterSpawn, BeforeJoin, SpawnBeforeJoin, JoinsGiveResults, HasParts, Promise, same, Kept, Spawning, Joining, OneStamp, Restriction, JoinedValue, BreaksAlone, EachIsNeeded, IsMet}
 
 -- cases over the logs and their entries ------------------------------------------
 

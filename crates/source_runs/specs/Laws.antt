@@ -16,7 +16,8 @@ use Rattle.runs.specs.ReplayLaw.{first_progress, record_of, FitsAlways}
 use Rattle.runs.specs.Right.{NumbersRiseFrom, IsRight}
 use Rattle.runs.specs.Theorem.{LogsMakeOneRun, PromisesMakeOneRun}
 use Rattle.runs.specs.Tree.{numbers_of, IsWholeRun}
-use Rattle.source_sem.specs.Source.{Setting, source}
+use Rattle.runs.specs.Threads.{StandsOnce}
+use Rattle.source_sem.specs.Source.{Setting, Source, source}
 use Rattle.source_sem.specs.Starting.{setting_of, main_of, main_start}
 use Rattle.source_runs.specs.Setting.{allowed, IsRightRecord}
 
@@ -55,3 +56,7 @@ ThreadsDiffer =
     (program : Program) (input : List ℕ) (hosts : HostTable) (limits : Limits) (logs : List ThreadLog) (allocs : List AllocLog) (words : Counters)
     → IsWholeRun (source (setting_of program input hosts)) objects (allowed limits hosts) limits (main_of program) (main_start (setting_of program input hosts)) logs allocs words
     → IsDistinct nat_eq (numbers_of logs)
+
+-- a thread's last state is told by its log and its count of instructions
+abbrev pub LogsTellStates : Type 0
+LogsTellStates = (x : Setting) (limit : ℕ) (starts : ℕ → Source) → StandsOnce (source x) limit starts

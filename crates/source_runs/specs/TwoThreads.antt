@@ -27,7 +27,7 @@ use Rattle.run_record.specs.declared.record.RunRecord.{RunRecord}
 use Rattle.runs.specs.Interleaving.{Legal}
 use Rattle.runs.specs.Merge.{merged, MayMerge}
 use Rattle.runs.specs.Objects.{objects}
-use Rattle.runs.specs.Parts.{of_thread, of_alloc, child_of}
+use Rattle.runs.specs.Parts.{clean, of_thread, of_alloc, child_of}
 use Rattle.runs.specs.Merge.{entries_of}
 use Rattle.runs.specs.Right.{HasLog, HasThreads, MergesToRun, AllocsRiseFrom, history_of, end_of}
 use Rattle.runs.specs.Stamps.{Has, RisesFrom}
@@ -75,9 +75,6 @@ pub record Told : Type 0 where
   pub join : ℕ
   pub joined : ℕ
   pub verdict : Verdict
-
-abbrev pub clean : Plain → Option Prov → Reply
-clean p carried = record { plain = p; carried = carried; verdict = verdict.Clean }
 
 abbrev pub entry : ℕ → ℕ → ℕ → Option AllocNo → Request → Reply → Entry
 entry thread stamp site on request reply = record { thread = record { 0 = thread }; stamp = record { 0 = stamp }; site = site; alloc = on; request = request; reply = reply }

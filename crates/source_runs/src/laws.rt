@@ -1,16 +1,18 @@
 //! What holds of all runs. The functions do nothing: each contract is a law.
 ghost use Rattle.source_runs.specs.ErasureLaw.{ErasureIsARun, RightRecordsErase};
 ghost use Rattle.source_runs.specs.Histories.{HistoriesAreLegal};
-ghost use Rattle.source_runs.specs.Laws.{LogsAreOneRun, PromisesAreOneRun, BeginningsAreRuns, ReplaysAreRight, WholeRunsLeaveRightRecords, ThreadsDiffer};
+ghost use Rattle.source_runs.specs.Laws.{LogsAreOneRun, PromisesAreOneRun, BeginningsAreRuns, LogsTellStates, ReplaysAreRight, WholeRunsLeaveRightRecords, ThreadsDiffer};
 ghost use Rattle.source_runs.specs.Replays.{ReplaysByExample};
 ghost use Rattle.source_runs.specs.Reportable.{RightRecordsAreReportable};
 ghost use Rattle.source_runs.specs.Sibling.{IsErasedRun};
 ghost use Rattle.source_runs.specs.TwoThreads.{IsMet, EachIsNeeded};
 
 /// Separate logs are one run: the threads' logs, the allocations' histories and the order of
-/// their stamps say all of it. A run that is broken off is a run. A replay leaves a right record.
+/// their stamps say all of it. A thread's last state is told by its log and its count of
+/// instructions. A run that is broken off is a run. A replay leaves a right record.
 pub fn logs_are_one_run()
     ensures logs { LogsAreOneRun }
+    ensures states { LogsTellStates }
     ensures promises { PromisesAreOneRun }
     ensures beginnings { BeginningsAreRuns }
     ensures replays { ReplaysAreRight }

@@ -34,6 +34,7 @@ use Rattle.ir_ast.specs.declared.program.Param.{Param}
 use Rattle.ir_ast.specs.declared.program.Program.{Program}
 use Rattle.ir_ast.specs.declared.program.TypedVal.{TypedVal}
 use Rattle.runs.specs.Machine.{Machine}
+use Rattle.runs.specs.Threads.{CountsTurns}
 use Rattle.runs.specs.Erasure.{trap_of}
 use Rattle.source_sem.specs.Env.{Env, blank, plain_arg, value_in, operand, arg_of, args_of, prov_at, arg_at, bind, put, put_some, bits}
 use Rattle.source_sem.specs.Parts.{Part, Gives, Steps, Retags, Copies, Calls, Joins, Accesses, Prints, Spawns, Loads, Stores, Modifies, Compares, Frees, part_ask, retag_ask, Progress, untouched, copy_ask, copy_after, copy_done, Owned, nothing_owned, release_ask, released, protect, without, number_in, step_owned, step_started, step_result, moved, binary_part, compared, chosen, cast_arg, input_arg, make_part, makes_step, retag_part, copy_part, call_part, host_part, join_part}
@@ -497,3 +498,7 @@ plain_setting x = record x { tracked = false }
 -- only an instruction of which no part is done is a local turn
 abbrev pub TurnsAreFresh : Type 0
 TurnsAreFresh = (x : Setting) (s : Source) → source_ask x s ≡ ask.Turn → source_begins s ≡ true
+
+-- and it is one instruction
+abbrev pub TurnsCount : Type 0
+TurnsCount = (x : Setting) → CountsTurns (source x)

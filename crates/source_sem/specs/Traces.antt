@@ -29,8 +29,8 @@ use Rattle.history.specs.declared.entry.Plain.{Plain}
 use Rattle.history.specs.declared.entry.Plain.TheVariants as plain
 use Rattle.history.specs.declared.entry.Reply.{Reply}
 use Rattle.history.specs.declared.entry.Request.TheVariants as request
-use Rattle.history.specs.declared.entry.Verdict.TheVariants as verdict
 use Rattle.history.specs.Pieces.{Byte}
+use Rattle.runs.specs.Parts.{clean}
 use Rattle.source_sem.specs.Source.{Setting, Source, source_ask, source_turn, source_answer, source_site, source_start}
 
 -- what a thread is given: nothing, where it makes a local turn, or a reply
@@ -109,9 +109,6 @@ tag n = record { 0 = n }
 
 abbrev pub prov : ℕ → ℕ → Prov
 prov a t = record { alloc = alloc a; tag = tag t }
-
-abbrev pub clean : Plain → Option Prov → Reply
-clean p carried = record { plain = p; carried = carried; verdict = verdict.Clean }
 
 abbrev pub made : ℕ → ℕ → Given
 made a t = Some (clean (plain.Made (alloc a)) (Some (prov a t)))

@@ -7,15 +7,8 @@ use Rattle.history.specs.declared.ask.MachineEnd.TheVariants as end
 use Rattle.history.specs.declared.entry.Plain.{Plain}
 use Rattle.history.specs.declared.entry.Plain.TheVariants as plain
 use Rattle.history.specs.declared.entry.Reply.{Reply}
-use Rattle.history.specs.declared.trap.Trap.{Trap}
-use Rattle.history.specs.declared.trap.Trap.TheVariants as trap
+use Rattle.runs.specs.Threads.{IsOwnTrap}
 use Rattle.source_sem.specs.Source.{Setting, Source, source_ask, source_turn, source_answer, source_start, source_child}
-
--- a trap of an instruction or of an allocation
-abbrev pub IsOwnTrap : Trap → Type 0
-IsOwnTrap (trap.AllocLimit d) = ⊥
-IsOwnTrap (trap.ThreadLimit d) = ⊥
-IsOwnTrap other = Unit {0}
 
 abbrev pub EndIsOwn : MachineEnd → Type 0
 EndIsOwn (end.Returned v p) = Unit {0}

@@ -1,3 +1,5 @@
+use Rattle.runs.proofs.Standing.{stands_once}
+use Rattle.source_sem.proofs.Fresh.{turns_count}
 use Rattle.std.specs.Prelude.{◌==◌}
 use Rattle.runs.specs.Interleaving.{first_world}
 use Rattle.runs.specs.Objects.{objects}
@@ -26,3 +28,6 @@ returns-clause-beginnings c x limits hosts w es more run = prefix_runs (source x
 pub returns-clause-replays : goal.returns-clause-replays
 returns-clause-replays c x limits hosts schedule last fits r =
     replay_is_right (source x) objects (allowed limits hosts) limits schedule (main_of x.program) (main_start x) last refl objects_make_alone fits r
+
+pub returns-clause-states : goal.returns-clause-states
+returns-clause-states c x limit starts = stands_once (source x) (turns_count x) limit starts
