@@ -31,3 +31,4 @@ pub mod Countings
 pub mod WholeParts
 pub mod WholeRuns
 pub mod Standing
+pub mod Growing

@@ -70,11 +70,12 @@ abbrev pub Interleaves : (M : Machine) → (O : Memory) → Allowed → World M 
 Interleaves M O A w [] = Unit {0}
 Interleaves M O A w (e ∷ es) = (v : Event M O A w e) × Interleaves M O A (world_after M O w v.now e) es
 
--- the entries on one number are a legal history of its object
+-- a Make is of an object that isn't made
 abbrev pub MakesUnmade : (O : Memory) → O.Object → Request → Type 0
 MakesUnmade O o (request.Make size place) = O.made o ≡ false
 MakesUnmade O o _ = Unit {0}
 
+-- the entries on one number are a legal history of its object
 abbrev pub Legal : (O : Memory) → O.Object → List Entry → Type 0
 Legal O o [] = Unit {0}
 Legal O o (e ∷ es) = MakesUnmade O o e.request × (e.reply ≡ O.reply o e.request e.stamp.0) × Legal O (O.next o e.request e.stamp.0) es
