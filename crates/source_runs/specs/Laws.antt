@@ -1,5 +1,5 @@
 -- What holds of all runs of source threads over allocations.
-use Rattle.std.specs.Prelude.{ℕ, List, ◌++◌, nat_eq, IsPermutation}
+use Rattle.std.specs.Prelude.{◌≡◌, ℕ, List, ◌++◌, nat_eq, IsPermutation}
 use Rattle.std.specs.List.{IsDistinct}
 use Rattle.bsan_ids.specs.declared.numbers.Counters.{Counters}
 use Rattle.history.specs.declared.entry.Entry.{Entry}
@@ -13,7 +13,7 @@ use Rattle.runs.specs.Interleaving.{World, Interleaves}
 use Rattle.runs.specs.Objects.{objects}
 use Rattle.runs.specs.Replay.{Progress, IsReplay}
 use Rattle.runs.specs.ReplayLaw.{first_progress, record_of, FitsAlways}
-use Rattle.runs.specs.Right.{NumbersRiseFrom, IsRight}
+use Rattle.runs.specs.Right.{HasLog, HasRuns, NumbersRiseFrom, IsRight}
 use Rattle.runs.specs.Theorem.{LogsMakeOneRun, PromisesMakeOneRun}
 use Rattle.runs.specs.Tree.{numbers_of, IsWholeRun}
 use Rattle.runs.specs.Threads.{StandsOnce}
@@ -57,6 +57,7 @@ ThreadsDiffer =
     → IsWholeRun (source (setting_of program input hosts)) objects (allowed limits hosts) limits (main_of program) (main_start (setting_of program input hosts)) logs allocs words
     → IsDistinct nat_eq (numbers_of logs)
 
--- a thread's last state is told by its log and its count of instructions
-abbrev pub LogsTellStates : Type 0
-LogsTellStates = (x : Setting) (limit : ℕ) (starts : ℕ → Source) → StandsOnce (source x) limit starts
+-- a thread's last state is told by its log and its count of instructions, and its first state by the chain of Spawn entries
+pub record LogsTellStates : Type 0 where
+  pub last : (x : Setting) (limit : ℕ) (starts : ℕ → Source) → StandsOnce (source x) limit starts
+  pub first : (x : Setting) (limits : Limits) (main : Source) (logs : List ThreadLog) (r q : HasRuns (source x) limits main logs) (log : ThreadLog) → HasLog logs log → r.starts log.number.0 ≡ q.starts log.number.0

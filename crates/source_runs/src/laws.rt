@@ -9,7 +9,8 @@ ghost use Rattle.source_runs.specs.TwoThreads.{IsMet, EachIsNeeded};
 
 /// Separate logs are one run: the threads' logs, the allocations' histories and the order of
 /// their stamps say all of it. A thread's last state is told by its log and its count of
-/// instructions. A run that is broken off is a run. A replay leaves a right record.
+/// instructions, and its first state by the Spawn entries that lead to it. A run that is broken off
+/// is a run. A replay leaves a right record.
 pub fn logs_are_one_run()
     ensures logs { LogsAreOneRun }
     ensures states { LogsTellStates }

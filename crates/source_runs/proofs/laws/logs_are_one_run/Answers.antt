@@ -1,4 +1,4 @@
-use Rattle.runs.proofs.Standing.{stands_once}
+use Rattle.runs.proofs.Standing.{stands_once, starts_agree}
 use Rattle.source_sem.proofs.Fresh.{turns_count}
 use Rattle.std.specs.Prelude.{◌==◌}
 use Rattle.runs.specs.Interleaving.{first_world}
@@ -30,4 +30,7 @@ returns-clause-replays c x limits hosts schedule last fits r =
     replay_is_right (source x) objects (allowed limits hosts) limits schedule (main_of x.program) (main_start x) last refl objects_make_alone fits r
 
 pub returns-clause-states : goal.returns-clause-states
-returns-clause-states c x limit starts = stands_once (source x) (turns_count x) limit starts
+returns-clause-states c = record {
+  last = λ x limit starts. stands_once (source x) (turns_count x) limit starts;
+  first = λ x limits main logs r q log h. starts_agree (source x) (turns_count x) limits main logs r q log.number.0 (r.reached log h);
+}
