@@ -31,7 +31,7 @@ use Rattle.ir_ast.specs.declared.program.Val.{Val}
 use Rattle.ir_ast.specs.declared.program.Val.TheVariants.{Reg, Num}
 use Rattle.runs.specs.Parts.{Answers, IsOnNumber}
 use Rattle.runs.specs.Erasure.{trap_of, erased_request, erased_entry, erased_plain, erased_reply, without_fragments}
-use Rattle.source_sem.specs.Env.{Env, blank, plain_arg, value_in, operand, arg_of, args_of, prov_at, at_width, arg_at, bind, put_some, bits}
+use Rattle.source_sem.specs.Env.{Env, blank, plain_arg, value_in, operand, arg_of, args_of, prov_at, at_width, arg_at, cut_at, bind, put_some, bits}
 use Rattle.ir_ast.specs.Arithmetic.{Worked, word, div_zero, shift_too_far, worked}
 use Rattle.source_sem.specs.Parts.{Step, Access, Gives, Steps, Makes, Accesses, Prints, Hosts, Spawns, Loads, Stores, Modifies, Compares, Frees, Made, Owned, Progress, number_at, access_request, step_ask, copy_ask, copy_ask_by, copy_after, copied_of, number_in, step_owned, step_started, step_result, access_result, with_stack, moved, worked_part, binary_part, compared, chosen, cast_arg, input_arg, make_by, make_part, makes_step, retag_part, copy_by, copy_part, call_part, nth_value, host_part, join_part}
 use Rattle.std.specs.Prelude.{nat_lt}
@@ -58,6 +58,10 @@ bytes_eq_same r = (bytes_eq-Decides r r).1 refl
 pub arg_at_erased : (ty : Ty) (a : Arg) → arg_at ty (erased_arg a) ≡ erased_arg (arg_at ty a)
 arg_at_erased (Int w) a = refl
 arg_at_erased Ptr a = refl
+
+cut_at_erased : (ty : Ty) (a : Arg) → cut_at ty (erased_arg a) ≡ erased_arg (cut_at ty a)
+cut_at_erased (Int w) a = refl
+cut_at_erased Ptr a = refl
 
 if_erased : (b : Bool) (v w : Arg) (u : Arg) → u ≡ erased_arg w → (if b then erased_arg v else u) ≡ erased_arg (if b then v else w)
 if_erased true v w u e = refl
@@ -147,10 +151,10 @@ part_alike x k depth env bare reads (op.Binary o w a b) = ap2 (binary_part o w) 
 part_alike x k depth env bare reads (op.Compare c ty a b) =
     ap2 (λ u v. Gives (Some (compared c ty u v))) (read_operand env bare reads a) (read_operand env bare reads b) ∙ ap (λ z. Gives (Some z)) (compared_plain c ty (operand env a) (operand env b))
 part_alike x k depth env bare reads (op.Select ty c a b) =
-    ap2 (λ u v. Gives (Some (arg_at ty (chosen (operand bare c).value u v)))) (read_operand env bare reads a) (read_operand env bare reads b)
-    ∙ ap (λ n. Gives (Some (arg_at ty (chosen n (erased_arg (operand env a)) (erased_arg (operand env b)))))) (ap (λ z. z.value) (read_operand env bare reads c))
-    ∙ ap (λ z. Gives (Some (arg_at ty z))) (chosen_plain (operand env c).value (operand env a) (operand env b))
-    ∙ ap (λ z. Gives (Some z)) (arg_at_erased ty (chosen (operand env c).value (operand env a) (operand env b)))
+    ap2 (λ u v. Gives (Some (cut_at ty (chosen (operand bare c).value u v)))) (read_operand env bare reads a) (read_operand env bare reads b)
+    ∙ ap (λ n. Gives (Some (cut_at ty (chosen n (erased_arg (operand env a)) (erased_arg (operand env b)))))) (ap (λ z. z.value) (read_operand env bare reads c))
+    ∙ ap (λ z. Gives (Some (cut_at ty z))) (chosen_plain (operand env c).value (operand env a) (operand env b))
+    ∙ ap (λ z. Gives (Some z)) (cut_at_erased ty (chosen (operand env c).value (operand env a) (operand env b)))
 part_alike x k depth env bare reads (op.Cast o v w a to_at) = ap (λ z. Gives (Some (cast_arg o v w z))) (read_operand env bare reads a) ∙ ap (λ z. Gives (Some z)) (cast_plain o v w (operand env a))
 part_alike x k depth env bare reads (op.PtrToInt p) = ap (λ z. Gives (Some (plain_arg z.value))) (reads p.name)
 part_alike x k depth env bare reads (op.Input v) = ap (λ z. Gives (Some (input_arg x.input z))) (read_operand env bare reads v)

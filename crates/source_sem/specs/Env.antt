@@ -51,6 +51,10 @@ at_width ty n = n % 2 ^ word_bits ty
 abbrev pub arg_at : Ty → Arg → Arg
 arg_at ty a = record { value = a.value; prov = prov_at ty a.prov }
 
+-- a value of a word's own width: the word is cut
+abbrev pub cut_at : Ty → Arg → Arg
+cut_at ty a = record { value = at_width ty a.value; prov = prov_at ty a.prov }
+
 -- an operand
 abbrev pub operand : Env → Val → Arg
 operand env (Reg r) = value_in env r.name

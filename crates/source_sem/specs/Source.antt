@@ -36,7 +36,7 @@ use Rattle.ir_ast.specs.declared.program.TypedVal.{TypedVal}
 use Rattle.runs.specs.Machine.{Machine}
 use Rattle.runs.specs.Threads.{CountsTurns}
 use Rattle.runs.specs.Erasure.{trap_of}
-use Rattle.source_sem.specs.Env.{Env, blank, plain_arg, value_in, operand, arg_of, args_of, prov_at, arg_at, bind, put, put_some, bits}
+use Rattle.source_sem.specs.Env.{Env, blank, plain_arg, value_in, operand, arg_of, args_of, prov_at, arg_at, cut_at, bind, put, put_some, bits}
 use Rattle.source_sem.specs.Parts.{Part, Gives, Steps, Retags, Copies, Calls, Joins, Accesses, Prints, Spawns, Loads, Stores, Modifies, Compares, Frees, part_ask, retag_ask, Progress, untouched, copy_ask, copy_after, copy_done, Owned, nothing_owned, release_ask, released, protect, without, number_in, step_owned, step_started, step_result, moved, binary_part, compared, chosen, cast_arg, input_arg, make_part, makes_step, retag_part, copy_part, call_part, host_part, join_part}
 
 -- the program, its input, the hosts' names, and whether provenance is kept: without it this is the plain program
@@ -88,7 +88,7 @@ op_part x k depth env (op.Store ty v p) = Steps (Accesses (value_in env p.name) 
 op_part x k depth env (op.Retag kind p n) = retag_part (makes_step x.tracked n) (value_in env p.name) kind n
 op_part x k depth env (op.Binary o w a b) = binary_part o w (operand env a) (operand env b)
 op_part x k depth env (op.Compare c ty a b) = Gives (Some (compared c ty (operand env a) (operand env b)))
-op_part x k depth env (op.Select ty c a b) = Gives (Some (arg_at ty (chosen (operand env c).value (operand env a) (operand env b))))
+op_part x k depth env (op.Select ty c a b) = Gives (Some (cut_at ty (chosen (operand env c).value (operand env a) (operand env b))))
 op_part x k depth env (op.Cast o v w a to_at) = Gives (Some (cast_arg o v w (operand env a)))
 op_part x k depth env (op.PtrToInt p) = Gives (Some (plain_arg (value_in env p.name).value))
 op_part x k depth env (op.Input v) = Gives (Some (input_arg x.input (operand env v)))

@@ -26,7 +26,7 @@ use Rattle.source_words.specs.Typing.{ArgTyped, OpTyped}
 use Rattle.source_sem.specs.Starting.{ArgsFit}
 use Rattle.source_words.specs.Invariant.{EnvFits, JoinsTyped}
 use Rattle.source_words.proofs.Words.{WorkedFits, worked_fits, wrapped, cast_fits}
-use Rattle.source_words.proofs.Registers.{fits_plain, fits_ptr, fits_arg, fits_blank, MayGive, operand_fits, arg_fits, args_fit}
+use Rattle.source_words.proofs.Registers.{fits_plain, fits_ptr, fits_at, fits_blank, MayGive, operand_fits, arg_fits, args_fit}
 
 mod_same : (c : ℕ) → c < 2 ^ 32 → c % 2 ^ 32 ≡ c
 mod_same c less = omega (arith, less)
@@ -84,10 +84,6 @@ module _ (x : Setting) (K : ℕ → ℕ → Type 0) (zero_fits : (k : ℕ) → K
   retag_given true p kind n fits = (fits.word, refl)
   retag_given false p kind n fits = fits
 
-  chosen_fits : (m n : ℕ) (a b : Arg) → a.value < m → b.value < m → (chosen n a b).value < m
-  chosen_fits m zero a b one two = two
-  chosen_fits m (suc n) a b one two = one
-
   copy_given : (h : Option Holds) (b : Bool) (d s : Arg) (n : ℕ) → PartFits x K h (copy_by b d s n)
   copy_given h true d s n = tt
   copy_given h false d s n = tt
@@ -119,8 +115,7 @@ module _ (x : Setting) (K : ℕ → ℕ → Type 0) (zero_fits : (k : ℕ) → K
         worked_given w (worked o (bits w) _ _) (worked_fits o (bits w) _ _ (wrapped (bits w) (operand env a).value) (wrapped (bits w) (operand env b).value))
     op_fits k depth env (op.Compare c ty a b) all typed = fits_plain (Int W8) _ (truth_fits _)
     op_fits k depth env (op.Select ty c a b) all typed =
-        fits_arg ty (chosen (operand env c).value (operand env a) (operand env b))
-        (chosen_fits (2 ^ word_bits ty) (operand env c).value (operand env a) (operand env b) (operand_fits x.program K zero_fits g env ty a all typed.0) (operand_fits x.program K zero_fits g env ty b all typed.1))
+        let v = chosen (operand env c).value (operand env a) (operand env b) in fits_at ty (v.value % 2 ^ word_bits ty) v.prov (wrapped (word_bits ty) v.value)
     op_fits k depth env (op.Cast o v w a to_at) all typed = fits_plain (Int w) _ (cast_fits o (bits v) (bits w) ((operand env a).value % 2 ^ bits v))
     op_fits k depth env (op.PtrToInt p) all typed = fits_plain (Int W64) (value_in env p.name).value (all p.name (value Ptr) typed).word
     op_fits k depth env (op.Input v) all typed = fits_plain (Int W64) _ (input_fits x.input ((operand env v).value % 2 ^ 64) bytes)
