@@ -225,6 +225,7 @@ module _ (p : Program) (hosts : HostTable) (ok : IsAccepted p hosts) (g : Functi
   op_typed (op.PtrToInt r) is stands us kept = us.0
   op_typed (op.Select ty c a b) is stands us kept =
       let front = each_left (UseHeld g) (val_uses (Int W8) c ++ val_uses ty a) (val_uses ty b) us in (
+        operand_typed g (Int W8) c is.0 stands.1.0 (each_left (UseHeld g) (val_uses (Int W8) c) (val_uses ty a) front),
         operand_typed g ty a is.1 stands.1.1.1.0 (each_right (UseHeld g) (val_uses (Int W8) c) (val_uses ty a) front),
         operand_typed g ty b is.2 stands.1.1.1.1.1.0 (each_right (UseHeld g) (val_uses (Int W8) c ++ val_uses ty a) (val_uses ty b) us),
       )

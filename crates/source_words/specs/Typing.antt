@@ -17,6 +17,7 @@ use Rattle.ir_ast.specs.declared.program.Val.{Val}
 use Rattle.ir_ast.specs.declared.program.Val.TheVariants.{Reg, Num}
 use Rattle.ir_ast.specs.declared.types.Ty.{Ty}
 use Rattle.ir_ast.specs.declared.types.Ty.TheVariants.{Int, Ptr}
+use Rattle.ir_ast.specs.declared.types.Width.TheVariants.{W8}
 use Rattle.ir_ast.specs.Shapes.{IsParam}
 use Rattle.ir_rules.specs.Occurrences.{Holds, op_gives, function_events}
 use Rattle.ir_rules.specs.Occurrences.Holds.{value, handle}
@@ -51,7 +52,7 @@ Callee p name args f = (slice_get p.functions (function_place p.functions name.n
 -- where an operation's value depends on the types of what it reads
 abbrev pub OpTyped : Program → Function → Op → Type 0
 OpTyped p g (op.Retag kind r n) = HasType g r.name Ptr
-OpTyped p g (op.Select ty c a b) = OperandTyped g ty a × OperandTyped g ty b
+OpTyped p g (op.Select ty c a b) = OperandTyped g (Int W8) c × OperandTyped g ty a × OperandTyped g ty b
 OpTyped p g (op.PtrToInt r) = HasType g r.name Ptr
 OpTyped p g (op.Call ty name args) = Each (ArgTyped g) args × ((f : Function) × Callee p name args f × (f.result.ty ≡ ty))
 OpTyped p g (op.Host ty name args) = Each (ArgTyped g) args × (word_bits ty ≡ 64)
