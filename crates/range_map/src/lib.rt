@@ -117,6 +117,13 @@ impl<T: Copy + Eq> RangeMap<T> {
         }
     }
 
+    /// Tells the caller's proof what holds of every range map. Nothing is done.
+    pub fn soundness(&self)
+        ensures { IsRanges self.now }
+    {
+        let _ = &self.len;
+    }
+
     /// Makes room for `runs` more run starts. Values and run starts stay, without memory too.
     pub fn reserve(&mut self, runs: u32) -> Result<(), NoMemory>
         ensures room { OnOk result (runs ≤ self.new.spare) }
