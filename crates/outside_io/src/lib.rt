@@ -3,6 +3,7 @@
 #![tactic(auto)]
 
 mod files;
+mod gate;
 mod mem_files;
 mod mem_sink;
 mod real_files;
@@ -10,6 +11,7 @@ mod real_sink;
 mod sink;
 
 pub use files::{FileFault, Files};
+pub use gate::{Gate, NoGate, Point};
 pub use mem_files::MemFiles;
 pub use mem_sink::MemSink;
 pub use real_files::RealFiles;
