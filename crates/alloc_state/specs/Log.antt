@@ -1,11 +1,13 @@
 -- An allocation's log, as contracts see it, and what its type keeps.
-use Rattle.std.specs.Prelude.{ℕ, ◌≡◌, ◌<◌, Option, MatchOption, List, Bool, vec_len, vec_capacity}
+use Rattle.std.specs.Prelude.{ℕ, ◌≡◌, ◌<◌, Option, MatchOption, List, Bool, All, vec_len, vec_capacity}
 use Rattle.std.specs.List.{list_any}
 use Rattle.std.specs.declared.vec.Vec.{Vec}
 use Rattle.std.specs.declared.alloc.Global.{Global}
 use Rattle.bsan_ids.specs.declared.numbers.AllocNo.{AllocNo}
 use Rattle.history.specs.declared.entry.Entry.{Entry}
 use Rattle.history.specs.declared.entry.Request.{Request}
+use Rattle.history.specs.declared.entry.Request.TheVariants.{CopyIn}
+use Rattle.ir_ast.specs.Tokens.{Each}
 use Rattle.history.specs.Objects.{unmade}
 use Rattle.history.specs.Histories.{replay, is_make, IsHistory}
 use Rattle.alloc_state.specs.Prepared.{Prepared}
@@ -20,8 +22,14 @@ pub record Log : Type 0 where
 abbrev pub has_make : List Entry → Bool
 has_make entries = list_any (λ e. is_make e.request) entries
 
+-- the bytes that a request writes are bytes
+abbrev pub HasBytes : Request → Type 0
+HasBytes (CopyIn at piece prov) = Each (λ b. b.0 < 256) piece
+HasBytes other = Unit {0}
+
 -- the entries are a legal history, the state is their replay, and there is room for the request that is ready
 pub record IsKept (number : ℕ) (entries : Vec Entry Global) (prepared : Prepared) : Type 0 where
   pub history : IsHistory number entries.items
+  pub bytes : All (λ e. HasBytes e.request) entries.items
   pub state : replay (unmade number) entries.items ≡ prepared.object
   pub room : MatchOption prepared.ready (Unit {0}) (λ _. vec_len entries < vec_capacity entries)

@@ -1,7 +1,7 @@
 //! The log of one allocation.
 ghost use Rattle.std.specs.Prelude.{◌≡◌, ◌∷◌, ◌++◌, [], ◌<◌, All, IsTrue, OnOk, OnErr, Some, None, true, false};
 ghost use Rattle.history.specs.Objects.{answer, unmade};
-ghost use Rattle.alloc_state.specs.Log.{has_make};
+ghost use Rattle.alloc_state.specs.Log.{has_make, HasBytes};
 ghost use Rattle.history.specs.Histories.{replay, fits, is_make, IsHistory};
 
 use crate::object_state::ObjectState;
@@ -74,8 +74,11 @@ impl AllocState {
         requires ready { self.old.ready ≡ Some request }
         requires later { All (λ e. e.stamp.0 < stamp.0) self.old.entries }
         requires fitting { IsTrue (fits request) }
+        requires bytes { HasBytes request }
         requires once { is_make request ≡ true → has_make self.old.entries ≡ false }
         ensures entry { result ≡ record { thread = thread; stamp = stamp; site = site; alloc = Some self.old.number; request = request; reply = (answer (replay (unmade self.old.number.0) self.old.entries) request stamp).reply } }
+        ensures history { IsHistory self.new.number.0 self.new.entries }
+        ensures bytes { All (λ e. HasBytes e.request) self.new.entries }
         ensures appended { self.new ≡ record { number = self.old.number; entries = self.old.entries ++ result ∷ []; ready = None } }
     {
         let number = self.number;

@@ -2,7 +2,7 @@
 ghost use Rattle.std.specs.Prelude.{◌≡◌, ◌+◌, ◌<◌, ◌≤◌, ◌^◌, [], ◌∷◌, ◌++◌, IsTrue, All, OnOk, OnErr, IfOk, true, false, length};
 ghost use Rattle.history.specs.Histories.{fits, is_make};
 ghost use Rattle.history.specs.declared.entry.Request.TheVariants as request;
-ghost use Rattle.alloc_state.specs.Log.{has_make};
+ghost use Rattle.alloc_state.specs.Log.{has_make, HasBytes};
 ghost use Rattle.ir_ast.specs.declared.types.Place.TheVariants.{Stack};
 ghost use Rattle.source_sem.specs.Parts as spec_parts;
 ghost use Rattle.small_run.specs.declared.steps.Halt.TheVariants.{NoMemory};
@@ -98,6 +98,7 @@ fn step_on(
 ) -> Result<Entry, NoMemory>
     requires later { All (λ e. e.stamp.0 < stamp.0) state.old.entries }
     requires fitting { IsTrue (fits request) }
+    requires bytes { HasBytes request }
     requires once { is_make request ≡ true → has_make state.old.entries ≡ false }
     ensures entry { IfOk result (λ e. e ≡ entry_on state.old stamp site request) }
     ensures appended { IfOk result (λ e. alloc_log state.new ≡ longer (alloc_log state.old) e) }
@@ -194,6 +195,7 @@ impl Steps {
         requires above { 0 < number.0 }
         requires within { number.0 ≤ self.old.made }
         requires fitting { IsTrue (fits request) }
+        requires bytes { HasBytes request }
         requires other { is_make request ≡ false }
         ensures { IsStep self.old number site request self.new result }
     {

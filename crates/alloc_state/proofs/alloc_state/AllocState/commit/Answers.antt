@@ -1,10 +1,11 @@
 use Rattle.std.proofs.Common.{◌≡◌, ◌∷◌, ◌++◌, ◌<◌, [], All, true, false, Some, None, ap, sym, ◌∙◌, subst, refl, List, Option}
+use Rattle.std.proofs.lemmas.List.Elements.{All-append, All-cons, All-nil}
 use Rattle.history.specs.declared.entry.Entry.{Entry}
 use Rattle.history.specs.declared.entry.Request.{Request}
 use Rattle.history.specs.declared.entry.Reply.{Reply}
 use Rattle.history.specs.Objects.{Object, answer, unmade}
 use Rattle.history.specs.Histories.{replay, is_make}
-use Rattle.alloc_state.specs.Log.{Log, has_make}
+use Rattle.alloc_state.specs.Log.{Log, has_make, HasBytes}
 use Rattle.alloc_state.specs.Prepared.{Prepared, AreBelow}
 use Rattle.alloc_state.proofs.LongerHistory.{IsHistory-push, replay-push}
 use Rattle.alloc_state.proofs.TagsBelow.{AreBelow-replay}
@@ -32,6 +33,7 @@ invariant_of-self c =
     let reply = c.run-ran.ensures.reply ∙ ap (λ (o : Object). (answer o request stamp).reply) (sym state) in
     record {
       history = rw c.push_reserved.ensures.items (IsHistory-push number entries entry c.self.invariant.history later refl c.requires.fitting (λ h. none_made entries (once h)) reply);
+      bytes = rw c.push_reserved.ensures.items (All-append (λ (x : Entry). HasBytes x.request) entries (entry ∷ []) c.self.invariant.bytes (All-cons (λ (x : Entry). HasBytes x.request) entry [] c.requires.bytes (All-nil (λ (x : Entry). HasBytes x.request))));
       state = ap (replay (unmade number)) c.push_reserved.ensures.items ∙ replay-push (unmade number) entries entry ∙ ap (λ (o : Object). (answer o request stamp).object) state ∙ sym (ap (λ (p : Prepared). p.object) c.run-ran.ensures.state);
       room = rw c.run-ran.ensures.state tt;
     }
@@ -48,3 +50,9 @@ returns-clause-appended c =
     ∙ ap (λ (q : Request). log (items ++ entry q c.run-ran.result.reply ∷ []) None) (sym c.run-ran.ensures.request)
     ∙ ap (λ (r : Reply). log (items ++ entry c.run-ran.result.request r ∷ []) None) (sym c.run-ran.ensures.again)
     ∙ ap (λ (l : Log). record { number = l.number; entries = l.entries ++ entry c.run-ran.result.request c.run-ran.result.again ∷ []; ready = None }) c.self.view_is
+
+pub returns-clause-history : goal.returns-clause-history
+returns-clause-history c = (invariant_of-self c).history
+
+pub returns-clause-bytes : goal.returns-clause-bytes
+returns-clause-bytes c = (invariant_of-self c).bytes
