@@ -24,7 +24,7 @@ use Rattle.ir_ast.specs.declared.program.Op.{Op}
 use Rattle.ir_ast.specs.declared.program.Op.TheVariants as op
 use Rattle.ir_ast.specs.declared.program.Param.{Param}
 use Rattle.ir_ast.specs.declared.program.Program.{Program}
-use Rattle.source_sem.specs.Env.{Env, value_in, put, put_some}
+use Rattle.source_sem.specs.Env.{Env, value_in, with_value, put, put_some}
 use Rattle.ir_ast.specs.Arithmetic.{Worked, word, div_zero, shift_too_far, worked}
 use Rattle.source_sem.specs.Parts.{Part, Step, Gives, Fails, Steps, Retags, Copies, Calls, Joins, Makes, Accesses, Prints, Hosts, Spawns, Owned, part_ask, step_ask, step_result, step_owned, worked_part, make_by, retag_part, copy_by, call_part, number_in, without}
 use Rattle.history.specs.declared.trap.Trap.{Trap}
@@ -41,6 +41,7 @@ use Rattle.ir_ast.specs.declared.types.Place.TheVariants.{Stack, Heap}
 use Rattle.history.specs.Pieces.{Byte}
 use Rattle.source_sem.specs.Joining.{is_bound}
 use Rattle.history.specs.declared.entry.Request.TheVariants as request
+use Rattle.source_sem.proofs.Writes.{value_in-with_value, is_bound-with_value}
 use Rattle.source_sem.specs.Parts.{copy_ask_by, protect, Made, with_stack, release_by, released_by, untouched, copy_after, copy_done, retag_ask}
 use Rattle.source_sem.specs.Source.{entry_ask, frames_type, nowhere, leave_with, copy_on, part_answer, term_answer, ready_answer, copying_part, copying_answer, entered, doing_answer, frames_answer, doing_ask, frames_ask, release_or, copying_ask, copying_by, SpawnedChild, ReplyFits, frames_turn, counted_if, frames_begin, is_ready}
 use Rattle.source_sem.proofs.JoinLaw.{next_some, dest_gives, PartGives, IsSpawns, step_gives, spawn_part, resumed_stands, return_stands, entering_stands, start_stands, ready_turns, mod_same}
@@ -226,28 +227,32 @@ module _ (x : Setting) (acc : JoinsAccepted x.program) where
   entered_stands t k is j n env o fs p ps r kids callers h =
       let fits : FunctionJoins h.at.code = acc k h.at.code h.at.is_code in
       let w : Arg = record { value = (value_in env p.reg.name).value; prov = r.carried } in
-      let holds : Holds h.at.code h.at.b h.at.block h.done ((p.reg.name, w) ∷ env) t.started = record {
-        missed = λ q e. h.placed.holds.missed q (or_false (bytes_eq p.reg.name q) (is_bound env q) e).1;
-        children = λ q handle e. kept_child t.started (bytes_eq p.reg.name q) env q w (λ same. clash (h.all.0 q same) (fits.joins.params q handle)) (h.placed.holds.children q handle) e;
+      let holds : Holds h.at.code h.at.b h.at.block h.done (with_value p.reg.name w env) t.started = record {
+        missed = λ q e. h.placed.holds.missed q (or_false (bytes_eq p.reg.name q) (is_bound env q) (sym (is_bound-with_value env p.reg.name w q) ∙ e)).1;
+        children = λ q handle e.
+            subst (λ z. Has t.started z.value) (sym (value_in-with_value env p.reg.name w q))
+            (kept_child t.started (bytes_eq p.reg.name q) env q w (λ same. clash (h.all.0 q same) (fits.joins.params q handle)) (h.placed.holds.children q handle) (sym (is_bound-with_value env p.reg.name w q) ∙ e));
       } in
-      let placed : Placed x.program t.started k h.at ((p.reg.name, w) ∷ env) (protect r.plain r.carried o) h.done is j = record {
+      let placed : Placed x.program t.started k h.at (with_value p.reg.name w env) (protect r.plain r.carried o) h.done is j = record {
         insts = h.placed.insts;
         term = h.placed.term;
         holds = holds;
         owned = λ c q. h.placed.owned c (protect_has r.plain r.carried o c q);
       } in
-      entering_stands x.program acc t k h.at is j n ((p.reg.name, w) ∷ env) (protect r.plain r.carried o) h.done fs ps kids callers placed h.all.1
+      entering_stands x.program acc t k h.at is j n (with_value p.reg.name w env) (protect r.plain r.carried o) h.done fs ps kids callers placed h.all.1
 
   retagged_stands : (t : Source) (k : ℕ) (is : List Inst) (j : Jump) (n : ℕ) (env : Env) (o : Owned) (fs : List Frame) (dest : Option Named) (w : Arg) → ((c : ℕ) → Has t.started c → (0 < c) × (c < 2 ^ 32)) → CallersStand x.program t.started fs
       → Retagged x.program t.started k is j env o dest → ThreadStands x.program (at_frames t (fr k is j n (put dest w env) o Ready ∷ fs))
   retagged_stands t k is j n env o fs None w kids callers h = record { frames = (inr (h.at, h.done ++ h.i ∷ [], h.placed), callers); kids = kids }
   retagged_stands t k is j n env o fs (Some m) w kids callers h =
       let fits : FunctionJoins h.at.code = acc k h.at.code h.at.is_code in
-      let holds : Holds h.at.code h.at.b h.at.block (h.done ++ h.i ∷ []) ((m.name, w) ∷ env) t.started = record {
-        missed = λ q e. h.placed.holds.missed q (or_false (bytes_eq m.name q) (is_bound env q) e).1;
-        children = λ q handle e. kept_child t.started (bytes_eq m.name q) env q w (λ same. h.no_spawn (fits.joins.alone h.at.b h.at.block h.done is h.i q h.stands (ap (λ z. dest_defines z q) h.dest_is ∙ same) handle)) (h.placed.holds.children q handle) e;
+      let holds : Holds h.at.code h.at.b h.at.block (h.done ++ h.i ∷ []) (with_value m.name w env) t.started = record {
+        missed = λ q e. h.placed.holds.missed q (or_false (bytes_eq m.name q) (is_bound env q) (sym (is_bound-with_value env m.name w q) ∙ e)).1;
+        children = λ q handle e.
+            subst (λ z. Has t.started z.value) (sym (value_in-with_value env m.name w q))
+            (kept_child t.started (bytes_eq m.name q) env q w (λ same. h.no_spawn (fits.joins.alone h.at.b h.at.block h.done is h.i q h.stands (ap (λ z. dest_defines z q) h.dest_is ∙ same) handle)) (h.placed.holds.children q handle) (sym (is_bound-with_value env m.name w q) ∙ e));
       } in
-      let placed : Placed x.program t.started k h.at ((m.name, w) ∷ env) o (h.done ++ h.i ∷ []) is j = record { insts = h.placed.insts; term = h.placed.term; holds = holds; owned = h.placed.owned } in
+      let placed : Placed x.program t.started k h.at (with_value m.name w env) o (h.done ++ h.i ∷ []) is j = record { insts = h.placed.insts; term = h.placed.term; holds = holds; owned = h.placed.owned } in
       record { frames = (inr (h.at, h.done ++ h.i ∷ [], placed), callers); kids = kids }
 
   doing_answers : (s : Source) (k : ℕ) (is : List Inst) (j : Jump) (n : ℕ) (env : Env) (o : Owned) (d : Doing) (fs : List Frame) (e : Entry) → ((c : ℕ) → Has s.started c → (0 < c) × (c < 2 ^ 32)) → CallersStand x.program s.started fs → FramesStand x.program s.started s.frames

@@ -9,8 +9,9 @@ use Rattle.ir_ast.specs.declared.program.Inst.{Inst}
 use Rattle.ir_ast.specs.declared.program.Named.{Named}
 use Rattle.ir_ast.specs.declared.program.Op.TheVariants as op
 use Rattle.ir_ast.specs.declared.program.Param.{Param}
-use Rattle.source_sem.specs.Env.{Env, blank, value_in, bind, arg_at}
+use Rattle.source_sem.specs.Env.{Env, blank, value_in, with_value, bind, arg_at}
 use Rattle.source_sem.specs.Joining.{params_define, dest_defines, insts_define, GoesTo, AvoidsBlock, IsUnassigned, StandsAt, IsSpawnOp, JoinsFit, is_bound, Has, Holds}
+use Rattle.source_sem.proofs.Writes.{value_in-with_value, is_bound-with_value}
 
 pub or_false : (b c : Bool) → (if b then true else c) ≡ false → (b ≡ false) × (c ≡ false)
 or_false false c h = (refl, h)
@@ -35,10 +36,10 @@ module _ (g : Function) (b : ℕ) (block : Block) (started : List ℕ) where
 
   -- an instruction that gives its value is done
   pub holds_put : (fits : JoinsFit g) (done rest : List Inst) (i : Inst) (n : Named) (env : Env) (v : Arg) → StandsAt g b block done i rest → i.dest ≡ Some n → (IsSpawnOp i.op → Has started v.value)
-      → Holds g b block done env started → Holds g b block (done ++ i ∷ []) ((n.name, v) ∷ env) started
+      → Holds g b block done env started → Holds g b block (done ++ i ∷ []) (with_value n.name v env) started
   holds_put fits done rest i n env v at dest child holds = record {
     missed = λ r h.
-        let both = or_false (bytes_eq n.name r) (is_bound env r) h in
+        let both = or_false (bytes_eq n.name r) (is_bound env r) (sym (is_bound-with_value env n.name v r) ∙ h) in
         let old : IsUnassigned g b block done r = holds.missed r both.1 in
         record {
           at_entry = old.at_entry;
@@ -48,9 +49,10 @@ module _ (g : Function) (b : ℕ) (block : Block) (started : List ℕ) where
           before = define_more done i r old.before (ap (λ z. dest_defines z r) dest ∙ both.0);
         };
     children = λ r handle h.
-        child_by (bytes_eq n.name r) env n.name r v refl
+        subst (λ z. Has started z.value) (sym (value_in-with_value env n.name v r))
+        (child_by (bytes_eq n.name r) env n.name r v refl
         (λ same. child (fits.alone b block done rest i r at (ap (λ z. dest_defines z r) dest ∙ same) handle))
-        (holds.children r handle) h;
+        (holds.children r handle) (sym (is_bound-with_value env n.name v r) ∙ h));
   }
 
   -- an instruction without a destination is done
@@ -81,12 +83,12 @@ module _ (g : Function) (b : ℕ) (block : Block) (started : List ℕ) where
 bound_bind : (ps : List Param) (vs : List Arg) (env : Env) (r : List ℕ) → is_bound (bind ps vs env) r ≡ false → (params_define ps r ≡ false) × (is_bound env r ≡ false)
 bound_bind [] vs env r h = (refl, h)
 bound_bind (p ∷ ps) [] env r h =
-    let rest = bound_bind ps [] ((p.reg.name, blank) ∷ env) r h in
-    let both = or_false (bytes_eq p.reg.name r) (is_bound env r) rest.1 in
+    let rest = bound_bind ps [] (with_value p.reg.name blank env) r h in
+    let both = or_false (bytes_eq p.reg.name r) (is_bound env r) (sym (is_bound-with_value env p.reg.name blank r) ∙ rest.1) in
     (false_or (bytes_eq p.reg.name r) (params_define ps r) both.0 rest.0, both.1)
 bound_bind (p ∷ ps) (v ∷ vs) env r h =
-    let rest = bound_bind ps vs ((p.reg.name, arg_at p.ty v) ∷ env) r h in
-    let both = or_false (bytes_eq p.reg.name r) (is_bound env r) rest.1 in
+    let rest = bound_bind ps vs (with_value p.reg.name (arg_at p.ty v) env) r h in
+    let both = or_false (bytes_eq p.reg.name r) (is_bound env r) (sym (is_bound-with_value env p.reg.name (arg_at p.ty v) r) ∙ rest.1) in
     (false_or (bytes_eq p.reg.name r) (params_define ps r) both.0 rest.0, both.1)
 
 skip_bound : (c : Bool) (d : Bool) → c ≡ false → (if c then true else d) ≡ d
@@ -101,12 +103,18 @@ bind_other : (ps : List Param) (vs : List Arg) (env : Env) (r : List ℕ) → pa
 bind_other [] vs env r h = (refl, refl)
 bind_other (p ∷ ps) [] env r h =
     let both = or_false (bytes_eq p.reg.name r) (params_define ps r) h in
-    let rest = bind_other ps [] ((p.reg.name, blank) ∷ env) r both.1 in
-    (rest.0 ∙ skip_bound (bytes_eq p.reg.name r) (is_bound env r) both.0, rest.1 ∙ skip_value (bytes_eq p.reg.name r) blank (value_in env r) both.0)
+    let rest = bind_other ps [] (with_value p.reg.name blank env) r both.1 in
+    (
+      rest.0 ∙ is_bound-with_value env p.reg.name blank r ∙ skip_bound (bytes_eq p.reg.name r) (is_bound env r) both.0,
+      rest.1 ∙ value_in-with_value env p.reg.name blank r ∙ skip_value (bytes_eq p.reg.name r) blank (value_in env r) both.0,
+    )
 bind_other (p ∷ ps) (v ∷ vs) env r h =
     let both = or_false (bytes_eq p.reg.name r) (params_define ps r) h in
-    let rest = bind_other ps vs ((p.reg.name, arg_at p.ty v) ∷ env) r both.1 in
-    (rest.0 ∙ skip_bound (bytes_eq p.reg.name r) (is_bound env r) both.0, rest.1 ∙ skip_value (bytes_eq p.reg.name r) (arg_at p.ty v) (value_in env r) both.0)
+    let rest = bind_other ps vs (with_value p.reg.name (arg_at p.ty v) env) r both.1 in
+    (
+      rest.0 ∙ is_bound-with_value env p.reg.name (arg_at p.ty v) r ∙ skip_bound (bytes_eq p.reg.name r) (is_bound env r) both.0,
+      rest.1 ∙ value_in-with_value env p.reg.name (arg_at p.ty v) r ∙ skip_value (bytes_eq p.reg.name r) (arg_at p.ty v) (value_in env r) both.0,
+    )
 
 -- a jump: the whole block is done, and the path is one block longer
 pub holds_goto : (g : Function) (fits : JoinsFit g) (b c : ℕ) (block to : Block) (started : List ℕ) (env : Env) (vs : List Arg) → slice_get g.blocks b ≡ Some block → slice_get g.blocks c ≡ Some to → GoesTo g b c

@@ -1,3 +1,4 @@
+pub mod Writes
 pub mod Reading
 pub mod Mirroring
 pub mod Keeping

@@ -27,13 +27,14 @@ use Rattle.ir_ast.specs.declared.program.TypedVal.{TypedVal}
 use Rattle.runs.specs.Parts.{Answers}
 use Rattle.runs.specs.Machine.{Settles}
 use Rattle.runs.specs.Erasure.{trap_of, Follows, is_left_out}
-use Rattle.source_sem.specs.Env.{Env, value_in, operand, args_of, bind, put, put_some}
+use Rattle.source_sem.specs.Env.{Env, value_in, operand, args_of, with_value, bind, put, put_some}
 use Rattle.history.specs.Pieces.{Byte}
 use Rattle.perm_table.specs.declared.Guard.TheVariants.{Free}
 use Rattle.source_sem.specs.Parts.{Access, Loads, Stores, Modifies, Compares, Frees, access_request, protect, nothing_owned, copy_ask_by, retag_ask, Part, Step, Gives, Fails, Steps, Retags, Copies, Calls, Joins, Makes, Accesses, Prints, Hosts, Spawns, part_ask, step_ask, Made, Owned, Progress, makes_step, chosen, release_by, released_by}
 use Rattle.ir_ast.specs.Numbers.{block_place, number_of_block, number_of_function}
 use Rattle.source_sem.specs.Source.{has_step, entering_answer, is_ready, frames_begin, copying_ask, nowhere, Setting, Source, Frame, Doing, Ready, Entering, Copying, Waiting, Retagging, Leaving, op_part, source, source_ask, source_turn, source_answer, source_start, plain_setting, in_block, goto_in, goto, entering, to_retag, frame_of, taken, result_step, resumed_by, resumed, at_frames, return_to, returned_value, frames_ask, doing_ask, ready_ask, term_ask, entry_ask, entering_ask, copying_by, part_turn, frames_turn, counted, counted_if, leave_with, leave_on, part_answer, term_answer, ready_answer, doing_answer, frames_answer, retagged, entered, part_child, insts_child, release_or}
 use Rattle.source_sem.specs.Plain.{erased_arg, erased_args, Reads, erased_stack, erased_owned, erased_option, plain_part, plain_doing, plain_frame, CallerMirrors, IsWaiting, CallersMirror, plain_rest, LeavingMirrors, TopMirrors, AllAttrs, HasAttr, IsBeside, MirrorsBy, Mirrors}
+use Rattle.source_sem.proofs.Writes.{value_in-with_value}
 use Rattle.source_sem.proofs.Reading.{bytes_eq_same, arg_at_erased, reads_over, reads_some, reads_bind, read_operand, read_arg, read_args, part_alike, none_to_retag}
 
 -- a frame in its parts
@@ -55,7 +56,7 @@ ready_top s c k is j n env bare o fs gs reads callers = record { bare = bare; be
 
 beside_put : (o : Owned) (dest : Option Named) (v : Arg) (a : Attr) (bare : Env) → IsBeside (put_some dest (Some (erased_arg v)) bare) o (Retagging dest v a)
 beside_put o None v a bare = tt
-beside_put o (Some r) v a bare = chosen_if (bytes_eq r.name r.name) (value_in bare r.name) (bytes_eq_same r.name)
+beside_put o (Some r) v a bare = value_in-with_value bare r.name (erased_arg v) r.name ∙ chosen_if (bytes_eq r.name r.name) (value_in bare r.name) (bytes_eq_same r.name)
   where
     chosen_if : (b : Bool) (u : Arg) → b ≡ true → (if b then erased_arg v else u) ≡ erased_arg v
     chosen_if true u e = refl
@@ -486,7 +487,7 @@ module _ (x : Setting) (s : Source) (c k : ℕ) (n : ℕ) (env bare : Env) (fs g
   left_entering is j o [] r beside h = absurd h
   left_entering is j o (q ∷ ps) r beside h =
       subst (λ z. Mirrors (at_frames s (entered (fr k is j n env o (Entering (q ∷ ps))) q ps r ∷ fs)) (plain_rest s c (fr k is j n bare z Ready ∷ gs))) (is_protect_erased r.plain r.carried o)
-      (entering_alike s c k is j n ((q.reg.name, record { value = (value_in env q.reg.name).value; prov = r.carried }) ∷ env) bare (protect r.plain r.carried o) fs gs ps beside.1
+      (entering_alike s c k is j n (with_value q.reg.name (record { value = (value_in env q.reg.name).value; prov = r.carried }) env) bare (protect r.plain r.carried o) fs gs ps beside.1
       (reads_over env bare q.reg.name (record { value = (value_in env q.reg.name).value; prov = r.carried }) reads (reads q.reg.name)) callers)
 
   left_leaving : (is : List Inst) (j : Jump) (v : Arg) (p : Source) (cs : List ℕ) (ps : List Prov) (ms : List Made) → LeftOut (release_or (release_by cs ps ms) nowhere)

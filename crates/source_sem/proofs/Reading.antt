@@ -31,10 +31,11 @@ use Rattle.ir_ast.specs.declared.program.Val.{Val}
 use Rattle.ir_ast.specs.declared.program.Val.TheVariants.{Reg, Num}
 use Rattle.runs.specs.Parts.{Answers, IsOnNumber}
 use Rattle.runs.specs.Erasure.{trap_of, erased_request, erased_entry, erased_plain, erased_reply, without_fragments}
-use Rattle.source_sem.specs.Env.{Env, blank, plain_arg, value_in, operand, arg_of, args_of, prov_at, at_width, arg_at, cut_at, bind, put_some, bits}
+use Rattle.source_sem.specs.Env.{Env, blank, plain_arg, value_in, operand, arg_of, args_of, prov_at, at_width, arg_at, cut_at, with_value, bind, put_some, bits}
 use Rattle.ir_ast.specs.Arithmetic.{Worked, word, div_zero, shift_too_far, worked}
 use Rattle.source_sem.specs.Parts.{Step, Access, Gives, Steps, Makes, Accesses, Prints, Hosts, Spawns, Loads, Stores, Modifies, Compares, Frees, Made, Owned, Progress, number_at, access_request, step_ask, copy_ask, copy_ask_by, copy_after, copied_of, number_in, step_owned, step_started, step_result, access_result, with_stack, moved, worked_part, binary_part, compared, chosen, cast_arg, input_arg, make_by, make_part, makes_step, retag_part, copy_by, copy_part, call_part, nth_value, host_part, join_part}
 use Rattle.std.specs.Prelude.{nat_lt}
+use Rattle.source_sem.proofs.Writes.{same_name, value_in-with_value}
 use Rattle.ir_ast.specs.Numbers.{function_place, place}
 use Rattle.ir_ast.specs.Attributes.{attr_of_call}
 use Rattle.source_sem.specs.Source.{handle_attr, Setting, op_part, plain_setting, has_step, to_retag}
@@ -46,9 +47,6 @@ ap2 f {a} {b} {c} {d} p q = ap (λ z. f z c) p ∙ ap (f b) q
 pub prov_none : (ty : Ty) → prov_at ty None ≡ None
 prov_none (Int w) = refl
 prov_none Ptr = refl
-
-pub same_name : (q r : List ℕ) → bytes_eq q r ≡ true → q ≡ r
-same_name q r e = (bytes_eq-Decides q r).0 e
 
 pub bytes_eq_same : (r : List ℕ) → bytes_eq r r ≡ true
 bytes_eq_same r = (bytes_eq-Decides r r).1 refl
@@ -67,16 +65,16 @@ if_erased : (b : Bool) (v w : Arg) (u : Arg) → u ≡ erased_arg w → (if b th
 if_erased true v w u e = refl
 if_erased false v w u e = e
 
-pub reads_put : (env bare : Env) (r : List ℕ) (v : Arg) → Reads env bare → Reads ((r, v) ∷ env) ((r, erased_arg v) ∷ bare)
-reads_put env bare r v reads q = if_erased (bytes_eq r q) v (value_in env q) (value_in bare q) (reads q)
+pub reads_put : (env bare : Env) (r : List ℕ) (v : Arg) → Reads env bare → Reads (with_value r v env) (with_value r (erased_arg v) bare)
+reads_put env bare r v reads q = value_in-with_value bare r (erased_arg v) q ∙ if_erased (bytes_eq r q) v (value_in env q) (value_in bare q) (reads q) ∙ ap erased_arg (sym (value_in-with_value env r v q))
 
 over_by : (b : Bool) (r q : List ℕ) (env bare : Env) (v : Arg) → bytes_eq r q ≡ b → Reads env bare → value_in bare r ≡ erased_arg v → value_in bare q ≡ erased_arg (if b then v else value_in env q)
 over_by true r q env bare v e reads h = ap (value_in bare) (sym (same_name r q e)) ∙ h
 over_by false r q env bare v e reads h = reads q
 
 -- a write of the same word with another provenance
-pub reads_over : (env bare : Env) (r : List ℕ) (v : Arg) → Reads env bare → value_in bare r ≡ erased_arg v → Reads ((r, v) ∷ env) bare
-reads_over env bare r v reads h q = over_by (bytes_eq r q) r q env bare v refl reads h
+pub reads_over : (env bare : Env) (r : List ℕ) (v : Arg) → Reads env bare → value_in bare r ≡ erased_arg v → Reads (with_value r v env) bare
+reads_over env bare r v reads h q = over_by (bytes_eq r q) r q env bare v refl reads h ∙ ap erased_arg (sym (value_in-with_value env r v q))
 
 pub reads_some : (env bare : Env) (dest : Option Named) (v : Option Arg) → Reads env bare → Reads (put_some dest v env) (put_some dest (erased_option v) bare)
 reads_some env bare dest None reads = reads
@@ -96,10 +94,10 @@ read_args env bare reads (v ∷ vs) = ap2 (λ a b. a ∷ b) (read_arg env bare r
 
 pub reads_bind : (ps : List Param) (vs : List Arg) (env bare : Env) → Reads env bare → Reads (bind ps vs env) (bind ps (erased_args vs) bare)
 reads_bind [] vs env bare reads = reads
-reads_bind (p ∷ ps) [] env bare reads = reads_bind ps [] ((p.reg.name, blank) ∷ env) ((p.reg.name, blank) ∷ bare) (reads_put env bare p.reg.name blank reads)
+reads_bind (p ∷ ps) [] env bare reads = reads_bind ps [] (with_value p.reg.name blank env) (with_value p.reg.name blank bare) (reads_put env bare p.reg.name blank reads)
 reads_bind (p ∷ ps) (v ∷ vs) env bare reads =
-    subst (λ z. Reads (bind ps vs ((p.reg.name, arg_at p.ty v) ∷ env)) (bind ps (erased_args vs) ((p.reg.name, z) ∷ bare))) (sym (arg_at_erased p.ty v))
-    (reads_bind ps vs ((p.reg.name, arg_at p.ty v) ∷ env) ((p.reg.name, erased_arg (arg_at p.ty v)) ∷ bare) (reads_put env bare p.reg.name (arg_at p.ty v) reads))
+    subst (λ z. Reads (bind ps vs (with_value p.reg.name (arg_at p.ty v) env)) (bind ps (erased_args vs) (with_value p.reg.name z bare))) (sym (arg_at_erased p.ty v))
+    (reads_bind ps vs (with_value p.reg.name (arg_at p.ty v) env) (with_value p.reg.name (erased_arg (arg_at p.ty v)) bare) (reads_put env bare p.reg.name (arg_at p.ty v) reads))
 
 -- what an instruction does
 

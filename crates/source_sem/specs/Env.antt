@@ -20,7 +20,7 @@ blank = record { value = 0; prov = None }
 abbrev pub plain_arg : ℕ → Arg
 plain_arg n = record { value = n; prov = None }
 
--- registers by name, the newest first
+-- registers by name, each once, in the order in which they were first written
 abbrev pub Env : Type 0
 Env = List (List ℕ × Arg)
 
@@ -67,15 +67,20 @@ abbrev pub args_of : Env → List TypedVal → List Arg
 args_of env [] = []
 args_of env (v ∷ vs) = arg_of env v ∷ args_of env vs
 
+-- the registers after a write
+abbrev pub with_value : List ℕ → Arg → Env → Env
+with_value r x [] = (r, x) ∷ []
+with_value r x (e ∷ env) = if bytes_eq e.0 r then (e.0, x) ∷ env else e ∷ with_value r x env
+
 -- the parameters' values, by position; what wasn't handed over is blank
 abbrev pub bind : List Param → List Arg → Env → Env
 bind [] xs env = env
-bind (p ∷ ps) [] env = bind ps [] ((p.reg.name, blank) ∷ env)
-bind (p ∷ ps) (x ∷ xs) env = bind ps xs ((p.reg.name, arg_at p.ty x) ∷ env)
+bind (p ∷ ps) [] env = bind ps [] (with_value p.reg.name blank env)
+bind (p ∷ ps) (x ∷ xs) env = bind ps xs (with_value p.reg.name (arg_at p.ty x) env)
 
 abbrev pub put : Option Named → Arg → Env → Env
 put None x env = env
-put (Some r) x env = (r.name, x) ∷ env
+put (Some r) x env = with_value r.name x env
 
 -- a result, where there is one
 abbrev pub put_some : Option Named → Option Arg → Env → Env

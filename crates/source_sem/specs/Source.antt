@@ -36,7 +36,7 @@ use Rattle.ir_ast.specs.declared.program.TypedVal.{TypedVal}
 use Rattle.runs.specs.Machine.{Machine}
 use Rattle.runs.specs.Threads.{CountsTurns}
 use Rattle.runs.specs.Erasure.{trap_of}
-use Rattle.source_sem.specs.Env.{Env, blank, plain_arg, value_in, operand, arg_of, args_of, prov_at, arg_at, cut_at, bind, put, put_some, bits}
+use Rattle.source_sem.specs.Env.{Env, blank, plain_arg, value_in, operand, arg_of, args_of, prov_at, arg_at, cut_at, with_value, bind, put, put_some, bits}
 use Rattle.source_sem.specs.Parts.{Part, Gives, Steps, Retags, Copies, Calls, Joins, Accesses, Prints, Spawns, Loads, Stores, Modifies, Compares, Frees, part_ask, retag_ask, Progress, untouched, copy_ask, copy_after, copy_done, Owned, nothing_owned, release_ask, released, protect, without, number_in, step_owned, step_started, step_result, moved, binary_part, compared, chosen, cast_arg, input_arg, make_part, makes_step, retag_part, copy_part, call_part, host_part, join_part}
 
 -- the program, its input, the hosts' names, and whether provenance is kept: without it this is the plain program
@@ -328,7 +328,7 @@ copying_answer x t f fs (i ∷ rest) pr r = copying_part t f fs rest (op_part x 
 
 abbrev pub entered : Frame → Param → List Param → Reply → Frame
 entered f p ps r =
-    record f { env = (p.reg.name, record { value = (value_in f.env p.reg.name).value; prov = r.carried }) ∷ f.env; owned = protect r.plain r.carried f.owned; doing = entering ps }
+    record f { env = with_value p.reg.name (record { value = (value_in f.env p.reg.name).value; prov = r.carried }) f.env; owned = protect r.plain r.carried f.owned; doing = entering ps }
 
 abbrev pub entering_answer : Source → Frame → List Frame → List Param → Reply → Source
 entering_answer t f fs [] r = t

@@ -17,7 +17,8 @@ use Rattle.ir_ast.specs.declared.types.Ty.TheVariants.{Int, Ptr}
 use Rattle.ir_rules.specs.Occurrences.{Holds, function_events}
 use Rattle.ir_rules.specs.Occurrences.Holds.{value, handle}
 use Rattle.ir_rules.specs.Rules.{held, param_types, arg_types}
-use Rattle.source_sem.specs.Env.{Env, blank, plain_arg, value_in, word_bits, prov_at, arg_at, operand, arg_of, args_of, bind, put_some}
+use Rattle.source_sem.specs.Env.{Env, blank, plain_arg, value_in, with_value, word_bits, prov_at, arg_at, operand, arg_of, args_of, bind, put_some}
+use Rattle.source_sem.proofs.Writes.{value_in-with_value}
 use Rattle.ir_ast.specs.Numbers.{function_place}
 use Rattle.source_sem.specs.Source.{ValueFits}
 use Rattle.ir_ast.specs.declared.program.Program.{Program}
@@ -65,10 +66,11 @@ arg_by Q true v w one two = one refl
 arg_by Q false v w one two = two
 
 module _ (P : Program) (K : ℕ → ℕ → Type 0) (zero_fits : (k : ℕ) → K k 0) (g : Function) where
-  pub env_put : (env : Env) (r : List ℕ) (h : Option Holds) (v : Arg) → held (function_events g) r ≡ h → GivenFits P K h v → EnvFits P K g env → EnvFits P K g ((r, v) ∷ env)
+  pub env_put : (env : Env) (r : List ℕ) (h : Option Holds) (v : Arg) → held (function_events g) r ≡ h → GivenFits P K h v → EnvFits P K g env → EnvFits P K g (with_value r v env)
   env_put env r h v is fits all q k typed =
-      arg_by (HoldsFit P K k) (bytes_eq r q) v (value_in env q)
-      (λ same. subst (λ z. GivenFits P K z v) (sym is ∙ subst (λ z. held (function_events g) z ≡ Some k) (sym ((bytes_decides r q).0 same)) typed) fits) (all q k typed)
+      subst (HoldsFit P K k) (sym (value_in-with_value env r v q))
+      (arg_by (HoldsFit P K k) (bytes_eq r q) v (value_in env q)
+      (λ same. subst (λ z. GivenFits P K z v) (sym is ∙ subst (λ z. held (function_events g) z ≡ Some k) (sym ((bytes_decides r q).0 same)) typed) fits) (all q k typed))
 
   pub env_dest : (env : Env) (dest : Option Named) (h : Option Holds) (v : Option Arg) → DestHolds g dest h → MayGive P K h v → EnvFits P K g env → EnvFits P K g (put_some dest v env)
   env_dest env dest h None is fits all = all
@@ -83,7 +85,7 @@ module _ (P : Program) (K : ℕ → ℕ → Type 0) (zero_fits : (k : ℕ) → K
   env_bind [] args env typed fits all = all
   env_bind (p ∷ ps) [] env typed fits all = absurd fits
   env_bind (p ∷ ps) (a ∷ args) env typed fits all =
-      env_bind ps args ((p.reg.name, arg_at p.ty a) ∷ env) typed.1 fits.1 (env_put env p.reg.name (Some (value p.ty)) (arg_at p.ty a) typed.0 (fits_arg p.ty a fits.0.word) all)
+      env_bind ps args (with_value p.reg.name (arg_at p.ty a) env) typed.1 fits.1 (env_put env p.reg.name (Some (value p.ty)) (arg_at p.ty a) typed.0 (fits_arg p.ty a fits.0.word) all)
 
   -- operands
 
