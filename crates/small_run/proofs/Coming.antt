@@ -36,7 +36,7 @@ use Rattle.runs.specs.Machine.{Machine}
 use Rattle.runs.specs.Parts.{Answers, child_of, of_alloc}
 use Rattle.runs.specs.Threads.{StartsAs}
 use Rattle.runs.proofs.Feeding.{feeds_turn, feeds_entry}
-use Rattle.source_sem.specs.Env.{Env, plain_arg, value_in, operand, put_some, arg_of}
+use Rattle.source_sem.specs.Env.{Env, plain_arg, value_in, with_value, operand, put_some, arg_of}
 use Rattle.source_sem.specs.Parts.{Part, Gives, Steps, Retags, Makes, Accesses, Loads, Stores, Made, part_ask, number_in, make_part, make_by}
 use Rattle.source_sem.specs.Source.{Source, Frame, source, op_part, source_ask, source_turn, source_answer, source_fits, source_site, source_begins, source_start, source_child, part_turn, part_answer, frames_answer, counted, advance}
 use Rattle.small_run.specs.Right.{setting, main_start}
@@ -155,7 +155,7 @@ makes version size large small =
 
 abbrev after_make : Jump → List Inst → ℕ → Named → Env → List Made → ℕ → ℕ → Source
 after_make term rest n r env stack stamp number =
-    standing term rest (n + 1) ((r.name, record { value = number * 2 ^ 32; prov = Some (prov_of number stamp) }) ∷ env) (record { number = alloc_no number; prov = Some (prov_of number stamp) } ∷ stack)
+    standing term rest (n + 1) (with_value r.name (record { value = number * 2 ^ 32; prov = Some (prov_of number stamp) }) env) (record { number = alloc_no number; prov = Some (prov_of number stamp) } ∷ stack)
 
 first_left : (program : Program) (term : Jump) (v : TypedVal) (at n : ℕ) (env : Env) (root : Prov) (ms : List Made) (r : Reply) → term ≡ jump.Ret (Some v) at
     → frames_answer (setting program) (counted (standing term [] n env (made_at root ∷ ms))) (frame_at term [] n env (made_at root ∷ ms) ∷ []) None r ≡ left_with term n env (arg_of env v) ms
@@ -178,7 +178,7 @@ next_left program term n env value root (m ∷ ms) r = refl
 pub const_goes : (program : Program) (es : List Entry) (term : Jump) (r : Named) (at value : ℕ) (rest : List Inst) (n : ℕ) (env : Env) (stack : List Made)
     → value < 2 ^ 64 → n < 10000000
     → ComesTo program es (standing term (record { dest = Some r; at = at; op = op.Const W64 value } ∷ rest) n env stack)
-    → ComesTo program es (standing term rest (n + 1) ((r.name, plain_arg value) ∷ env) stack)
+    → ComesTo program es (standing term rest (n + 1) (with_value r.name (plain_arg value) env) stack)
 const_goes program es term r at value rest n env stack small below h =
     let same : value % 2 ^ 64 ≡ value = mod-eq_of_lt small in
     gives_goes program es term (record { dest = Some r; at = at; op = op.Const W64 value }) rest n env stack (Some (plain_arg value))
@@ -189,7 +189,7 @@ pub load_goes : (program : Program) (es : List Entry) (term : Jump) (r p : Named
     → let e = entry_behind es number n (request.Load off (Int W64) (value_in env p.name).prov) in
     number_in e.reply.plain < 2 ^ 64 → trap_of e.reply.plain ≡ None
     → ComesTo program es (standing term (record { dest = Some r; at = at; op = op.Load (Int W64) p } ∷ rest) n env stack)
-    → ComesTo program (es ++ e ∷ []) (standing term rest (n + 1) ((r.name, plain_arg (number_in e.reply.plain)) ∷ env) stack)
+    → ComesTo program (es ++ e ∷ []) (standing term rest (n + 1) (with_value r.name (plain_arg (number_in e.reply.plain)) env) stack)
 load_goes program es term r p at rest n env stack number off high low below word clear h =
     let v : Arg = value_in env p.name in
     let e : Entry = entry_behind es number n (request.Load off (Int W64) v.prov) in
@@ -240,7 +240,7 @@ store_traps program es term w p at rest n env stack number off word t high low i
 pub no_retag_goes : (program : Program) (es : List Entry) (term : Jump) (r p : Named) (kind : RetagKind) (at : ℕ) (rest : List Inst) (n : ℕ) (env : Env) (stack : List Made)
     → n < 10000000
     → ComesTo program es (standing term (record { dest = Some r; at = at; op = op.Retag kind p 0 } ∷ rest) n env stack)
-    → ComesTo program es (standing term rest (n + 1) ((r.name, value_in env p.name) ∷ env) stack)
+    → ComesTo program es (standing term rest (n + 1) (with_value r.name (value_in env p.name) env) stack)
 no_retag_goes program es term r p kind at rest n env stack below h =
     gives_goes program es term (record { dest = Some r; at = at; op = op.Retag kind p 0 }) rest n env stack (Some (value_in env p.name)) refl below h
 
@@ -248,7 +248,7 @@ pub retag_goes : (program : Program) (es : List Entry) (term : Jump) (r p : Name
     → number.0 ≡ (value_in env p.name).value / 2 ^ 32 → off ≡ (value_in env p.name).value % 2 ^ 32 → 0 < size → n < 10000000
     → let e = entry_behind es number n (request.Retag off size kind Free (value_in env p.name).prov) in
     ComesTo program es (standing term (record { dest = Some r; at = at; op = op.Retag kind p size } ∷ rest) n env stack)
-    → ComesTo program (es ++ e ∷ []) (standing term rest (n + 1) ((r.name, record { value = (value_in env p.name).value; prov = e.reply.carried }) ∷ env) stack)
+    → ComesTo program (es ++ e ∷ []) (standing term rest (n + 1) (with_value r.name (record { value = (value_in env p.name).value; prov = e.reply.carried }) env) stack)
 retag_goes program es term r p kind zero at rest n env stack number off high low some below h = absurd (omega (arith, some))
 retag_goes program es term r p kind (suc size) at rest n env stack number off high low some below h =
     let v : Arg = value_in env p.name in
@@ -264,7 +264,7 @@ pub make_goes : (program : Program) (es : List Entry) (term : Jump) (r : Named) 
     → let e = entry_behind es number n (request.Make size Stack) in
     let root : Prov = record { alloc = number; tag = record { 0 = length es + 1 } } in
     ComesTo program es (standing term (record { dest = Some r; at = at; op = op.Make Stack (Num size) } ∷ rest) n env stack)
-    → ComesTo program (es ++ e ∷ []) (standing term rest (n + 1) ((r.name, record { value = number.0 * 2 ^ 32; prov = Some root }) ∷ env) (made_at root ∷ stack))
+    → ComesTo program (es ++ e ∷ []) (standing term rest (n + 1) (with_value r.name (record { value = number.0 * 2 ^ 32; prov = Some root }) env) (made_at root ∷ stack))
 make_goes program es term r size at rest n env stack number large small below h =
     let e : Entry = entry_behind es number n (request.Make size Stack) in
     let o : Object = object_behind es number.0 in

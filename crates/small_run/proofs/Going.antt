@@ -24,7 +24,7 @@ use Rattle.ir_ast.specs.declared.program.Val.TheVariants.{Num}
 use Rattle.ir_ast.specs.declared.types.Place.TheVariants.{Stack}
 use Rattle.ir_ast.specs.declared.types.Ty.TheVariants.{Int}
 use Rattle.ir_ast.specs.declared.types.Width.TheVariants.{W64}
-use Rattle.source_sem.specs.Env.{Env, plain_arg, value_in, operand}
+use Rattle.source_sem.specs.Env.{Env, plain_arg, value_in, with_value, operand}
 use Rattle.source_sem.specs.Source.{Source}
 use Rattle.source_sem.specs.Parts.{number_in, Made}
 use Rattle.small_run.specs.declared.steps.Halt.{Halt}
@@ -46,13 +46,13 @@ same_thread : (program : Program) (es fs : List Entry) (term : Jump) (insts : Li
 same_thread program es fs term insts n env other roots more a b c h = rw (a, b, c) h
 
 pub const_advances : (old new : Thread) (dest : Named) (value site : ℕ) → value < 2 ^ 64 → site < 65536
-    → new.registers ≡ (dest.name, plain_arg value) ∷ old.registers → new.roots.items ≡ old.roots.items → new.steps ≡ old.steps
+    → new.registers ≡ with_value dest.name (plain_arg value) old.registers → new.roots.items ≡ old.roots.items → new.steps ≡ old.steps
     → Advances (Some dest) (op.Const W64 value) site old new
 const_advances old new dest value site small below env roots steps =
     let entries : new.steps.entries ≡ old.steps.entries = ap (λ (s : Steps). s.entries) steps in
     let made : new.steps.made ≡ old.steps.made = ap (λ (s : Steps). s.made) steps in
     record {
-      comes = λ program term rest at h. same_thread program new.steps.entries old.steps.entries term rest (site + 1) new.registers ((dest.name, plain_arg value) ∷ old.registers) new.roots.items old.roots.items entries env roots
+      comes = λ program term rest at h. same_thread program new.steps.entries old.steps.entries term rest (site + 1) new.registers (with_value dest.name (plain_arg value) old.registers) new.roots.items old.roots.items entries env roots
           (const_goes program old.steps.entries term dest at value rest site old.registers (stack_of old.roots.items) small (omega arith) h);
       roots = λ r. rw (made, roots) r;
       entries = omega (arith, ap (length {A = Entry}) entries);
@@ -113,7 +113,7 @@ asked_at old new p q site number off r outcome same h = subst (λ (x : Arg). IsA
 
 pub load_advances : (old new : Thread) (dest ptr : Named) (site : ℕ) (number : AllocNo) (off : ℕ) (value : Arg)
     → IsAsked old new (value_in old.registers ptr.name) site number off (request.Load off (Int W64)) (Ok value) → value.value < 2 ^ 64
-    → new.registers ≡ (dest.name, plain_arg value.value) ∷ old.registers → new.roots.items ≡ old.roots.items
+    → new.registers ≡ with_value dest.name (plain_arg value.value) old.registers → new.roots.items ≡ old.roots.items
     → Advances (Some dest) (op.Load (Int W64) ptr) site old new
 load_advances old new dest ptr site number off value asked small env roots =
     let below : site < 65536 = asked.below in
@@ -122,9 +122,9 @@ load_advances old new dest ptr site number off value asked small env roots =
     let e : Entry = entry_behind old.steps.entries number site r in
     let taken : IsTaken (reply_behind old.steps.entries number r) value = step.1 in
     let made : new.steps.made ≡ old.steps.made = made_of old new number site r step.0 in
-    let env_ : new.registers ≡ (dest.name, plain_arg (number_in e.reply.plain)) ∷ old.registers = env ∙ ap (λ (w : ℕ). (dest.name, plain_arg w) ∷ old.registers) taken.word in
+    let env_ : new.registers ≡ with_value dest.name (plain_arg (number_in e.reply.plain)) old.registers = env ∙ ap (λ (w : ℕ). with_value dest.name (plain_arg w) old.registers) taken.word in
     record {
-      comes = λ program term rest at h. same_thread program new.steps.entries (old.steps.entries ++ e ∷ []) term rest (site + 1) new.registers ((dest.name, plain_arg (number_in e.reply.plain)) ∷ old.registers) new.roots.items old.roots.items (entries_of old new number site r step.0) env_ roots
+      comes = λ program term rest at h. same_thread program new.steps.entries (old.steps.entries ++ e ∷ []) term rest (site + 1) new.registers (with_value dest.name (plain_arg (number_in e.reply.plain)) old.registers) new.roots.items old.roots.items (entries_of old new number site r step.0) env_ roots
           (load_goes program old.steps.entries term dest ptr at rest site old.registers (stack_of old.roots.items) number off asked.high asked.low (omega arith) (subst (λ (w : ℕ). w < 2 ^ 64) taken.word small) taken.clear h);
       roots = roots_stay old new made roots;
       entries = one_longer old new number site r step.0;
@@ -187,14 +187,14 @@ store_is_trapped old new w ptr site number off word t asked is small =
     }
 
 pub no_retag_advances : (old new : Thread) (dest ptr : Named) (kind : RetagKind) (size site : ℕ) → size ≡ 0 → site < 65536 → IsMadeAt old.steps.made (value_in old.registers ptr.name)
-    → new.registers ≡ (dest.name, value_in old.registers ptr.name) ∷ old.registers → new.roots.items ≡ old.roots.items → new.steps ≡ old.steps
+    → new.registers ≡ with_value dest.name (value_in old.registers ptr.name) old.registers → new.roots.items ≡ old.roots.items → new.steps ≡ old.steps
     → Advances (Some dest) (op.Retag kind ptr size) site old new
 no_retag_advances old new dest ptr kind size site none below points env roots steps =
     let entries : new.steps.entries ≡ old.steps.entries = ap (λ (s : Steps). s.entries) steps in
     let made : new.steps.made ≡ old.steps.made = ap (λ (s : Steps). s.made) steps in
     subst (λ (k : ℕ). Advances (Some dest) (op.Retag kind ptr k) site old new) (sym none)
     (record {
-      comes = λ program term rest at h. same_thread program new.steps.entries old.steps.entries term rest (site + 1) new.registers ((dest.name, value_in old.registers ptr.name) ∷ old.registers) new.roots.items old.roots.items entries env roots
+      comes = λ program term rest at h. same_thread program new.steps.entries old.steps.entries term rest (site + 1) new.registers (with_value dest.name (value_in old.registers ptr.name) old.registers) new.roots.items old.roots.items entries env roots
           (no_retag_goes program old.steps.entries term dest ptr kind at rest site old.registers (stack_of old.roots.items) (omega arith) h);
       roots = roots_stay old new made roots;
       entries = omega (arith, ap (length {A = Entry}) entries);
@@ -205,7 +205,7 @@ no_retag_advances old new dest ptr kind size site none below points env roots st
 
 pub retag_advances : (old new : Thread) (dest ptr : Named) (kind : RetagKind) (size site : ℕ) (number : AllocNo) (off : ℕ) (value : Arg) → 0 < size → IsMadeAt old.steps.made (value_in old.registers ptr.name)
     → IsAsked old new (value_in old.registers ptr.name) site number off (request.Retag off size kind Free) (Ok value)
-    → new.registers ≡ (dest.name, record { value = (value_in old.registers ptr.name).value; prov = value.prov }) ∷ old.registers → new.roots.items ≡ old.roots.items
+    → new.registers ≡ with_value dest.name (record { value = (value_in old.registers ptr.name).value; prov = value.prov }) old.registers → new.roots.items ≡ old.roots.items
     → Advances (Some dest) (op.Retag kind ptr size) site old new
 retag_advances old new dest ptr kind size site number off value some points asked env roots =
     let below : site < 65536 = asked.below in
@@ -215,9 +215,9 @@ retag_advances old new dest ptr kind size site number off value some points aske
     let e : Entry = entry_behind old.steps.entries number site r in
     let taken : IsTaken (reply_behind old.steps.entries number r) value = step.1 in
     let made : new.steps.made ≡ old.steps.made = made_of old new number site r step.0 in
-    let env_ : new.registers ≡ (dest.name, record { value = p.value; prov = e.reply.carried }) ∷ old.registers = env ∙ ap (λ (q : Option Prov). (dest.name, arg_with p.value q) ∷ old.registers) taken.prov in
+    let env_ : new.registers ≡ with_value dest.name (record { value = p.value; prov = e.reply.carried }) old.registers = env ∙ ap (λ (q : Option Prov). with_value dest.name (arg_with p.value q) old.registers) taken.prov in
     record {
-      comes = λ program term rest at h. same_thread program new.steps.entries (old.steps.entries ++ e ∷ []) term rest (site + 1) new.registers ((dest.name, arg_with p.value e.reply.carried) ∷ old.registers) new.roots.items old.roots.items (entries_of old new number site r step.0) env_ roots
+      comes = λ program term rest at h. same_thread program new.steps.entries (old.steps.entries ++ e ∷ []) term rest (site + 1) new.registers (with_value dest.name (arg_with p.value e.reply.carried) old.registers) new.roots.items old.roots.items (entries_of old new number site r step.0) env_ roots
           (retag_goes program old.steps.entries term dest ptr kind size at rest site old.registers (stack_of old.roots.items) number off asked.high asked.low some (omega arith) h);
       roots = roots_stay old new made roots;
       entries = one_longer old new number site r step.0;
@@ -253,7 +253,7 @@ number_back n = let some : 0 < 2 ^ 32 = lit< tt in mul-div_cancel n some
 
 pub make_advances : (old new : Thread) (dest : Named) (size site : ℕ) (root : Prov) → site < 65536 → 8 ≤ size → size ≤ 65536
     → new.steps ≡ with_make old.steps site size → root ≡ next_root old.steps
-    → new.registers ≡ (dest.name, record { value = root.alloc.0 * 2 ^ 32 + 0; prov = Some root }) ∷ old.registers → new.roots.items ≡ old.roots.items ++ root ∷ []
+    → new.registers ≡ with_value dest.name (record { value = root.alloc.0 * 2 ^ 32 + 0; prov = Some root }) old.registers → new.roots.items ≡ old.roots.items ++ root ∷ []
     → Advances (Some dest) (op.Make Stack (Num size)) site old new
 make_advances old new dest size site root below large small steps is env roots =
     let first : Prov = next_root old.steps in
@@ -262,15 +262,15 @@ make_advances old new dest size site root below large small steps is env roots =
     let e : Entry = entry_behind old.steps.entries number site r in
     let entries : new.steps.entries ≡ old.steps.entries ++ e ∷ [] = ap (λ (s : Steps). s.entries) steps in
     let made : new.steps.made ≡ old.steps.made + 1 = ap (λ (s : Steps). s.made) steps in
-    let env_ : new.registers ≡ (dest.name, arg_with (number.0 * 2 ^ 32) (Some first)) ∷ old.registers =
-    env ∙ ap (λ (q : Prov). (dest.name, arg_with (q.alloc.0 * 2 ^ 32 + 0) (Some q)) ∷ old.registers) is
-    ∙ ap (λ (w : ℕ). (dest.name, arg_with w (Some first)) ∷ old.registers) (plus_none (number.0 * 2 ^ 32)) in
+    let env_ : new.registers ≡ with_value dest.name (arg_with (number.0 * 2 ^ 32) (Some first)) old.registers =
+    env ∙ ap (λ (q : Prov). with_value dest.name (arg_with (q.alloc.0 * 2 ^ 32 + 0) (Some q)) old.registers) is
+    ∙ ap (λ (w : ℕ). with_value dest.name (arg_with w (Some first)) old.registers) (plus_none (number.0 * 2 ^ 32)) in
     let roots_ : new.roots.items ≡ old.roots.items ++ first ∷ [] = roots ∙ ap (λ (q : Prov). old.roots.items ++ q ∷ []) is in
     record {
       comes = λ program term rest at h.
           let next = make_goes program old.steps.entries term dest size at rest site old.registers (stack_of old.roots.items) number large small (omega arith) h in
-          let C : List Made → Type 0 = λ ms. ComesTo program (old.steps.entries ++ e ∷ []) (standing term rest (site + 1) ((dest.name, arg_with (number.0 * 2 ^ 32) (Some first)) ∷ old.registers) ms) in
-          same_thread program new.steps.entries (old.steps.entries ++ e ∷ []) term rest (site + 1) new.registers ((dest.name, arg_with (number.0 * 2 ^ 32) (Some first)) ∷ old.registers) new.roots.items (old.roots.items ++ first ∷ []) entries env_ roots_
+          let C : List Made → Type 0 = λ ms. ComesTo program (old.steps.entries ++ e ∷ []) (standing term rest (site + 1) (with_value dest.name (arg_with (number.0 * 2 ^ 32) (Some first)) old.registers) ms) in
+          same_thread program new.steps.entries (old.steps.entries ++ e ∷ []) term rest (site + 1) new.registers (with_value dest.name (arg_with (number.0 * 2 ^ 32) (Some first)) old.registers) new.roots.items (old.roots.items ++ first ∷ []) entries env_ roots_
           (subst C (sym (stack_push old.roots.items first)) next);
       roots = λ h. subst (λ (ps : List Prov). AreRoots new.steps.made ps) (sym roots_) (roots_push old.steps.made new.steps.made old.roots.items first made refl h);
       entries = omega (arith, ap (length {A = Entry}) entries, length_more old.steps.entries e);

@@ -18,7 +18,7 @@ use Rattle.ir_ast.specs.declared.program.Op.TheVariants as op
 use Rattle.ir_ast.specs.declared.program.Program.{Program}
 use Rattle.run_record.specs.declared.log.End.TheVariants as log_end
 use Rattle.source_sem.specs.Env.{Env, value_in}
-use Rattle.source_sem.proofs.Reading.{same_name}
+use Rattle.source_sem.proofs.Writes.{same_name, value_in-with_value}
 use Rattle.small_run.specs.declared.thread.Thread.{Thread}
 use Rattle.small_run.specs.Small.{defines, is_named, is_defined, is_pointer, gives_pointer, is_form, uses_defined, is_new, fits_behind, AreInOrder}
 use Rattle.small_run.specs.Threads.{standing, ComesTo}
@@ -69,23 +69,25 @@ points_more done i m n old new points less fresh defs name is = by i.dest refl f
     | inl before ↦ subst (λ (env : Env). IsMadeAt n (value_in env name)) (sym same) (lift_made m n (value_in old name) less (points name before))
     | inr here ↦ absurd (let named : defines name i ≡ true = (and_parts (gives_pointer i.op) (defines name i) here).1 in let no : is_named None name ≡ true = ap (λ (d : Option Named). is_named d name) (sym at) ∙ named in cc)
   ]
-  by (Some r) at new_ b = subst (λ (env : Env). IsMadeAt n (value_in env name)) (sym b.env) (on (bytes_eq r.name name) refl) where
-    on : (t : Bool) → bytes_eq r.name name ≡ t → IsMadeAt n (if t then b.value else value_in old name)
-    on true same = elim split [
-      | inl before ↦
-          absurd (let one : r.name ≡ name = same_name r.name name same in
-          let there : is_defined done r.name ≡ true = ap (is_defined done) one ∙ pointer_defined done name before in
-          let no : not (is_defined done r.name) ≡ true = new_ in
-          let false_ : false ≡ true = sym (ap not there) ∙ no in cc)
-      | inr here ↦ b.points (and_parts (gives_pointer i.op) (defines name i) here).0
-    ]
-    on false other = elim split [
-      | inl before ↦ lift_made m n (value_in old name) less (points name before)
-      | inr here ↦
-          absurd (let named : defines name i ≡ true = (and_parts (gives_pointer i.op) (defines name i) here).1 in
-          let hit : bytes_eq r.name name ≡ true = ap (λ (d : Option Named). is_named d name) (sym at) ∙ named in
-          let false_ : false ≡ true = sym other ∙ hit in cc)
-    ]
+  by (Some r) at new_ b =
+      subst (λ (env : Env). IsMadeAt n (value_in env name)) (sym b.env) (subst (IsMadeAt n) (sym (value_in-with_value old r.name b.value name)) (on (bytes_eq r.name name) refl))
+    where
+      on : (t : Bool) → bytes_eq r.name name ≡ t → IsMadeAt n (if t then b.value else value_in old name)
+      on true same = elim split [
+        | inl before ↦
+            absurd (let one : r.name ≡ name = same_name r.name name same in
+            let there : is_defined done r.name ≡ true = ap (is_defined done) one ∙ pointer_defined done name before in
+            let no : not (is_defined done r.name) ≡ true = new_ in
+            let false_ : false ≡ true = sym (ap not there) ∙ no in cc)
+        | inr here ↦ b.points (and_parts (gives_pointer i.op) (defines name i) here).0
+      ]
+      on false other = elim split [
+        | inl before ↦ lift_made m n (value_in old name) less (points name before)
+        | inr here ↦
+            absurd (let named : defines name i ≡ true = (and_parts (gives_pointer i.op) (defines name i) here).1 in
+            let hit : bytes_eq r.name name ≡ true = ap (λ (d : Option Named). is_named d name) (sym at) ∙ named in
+            let false_ : false ≡ true = sym other ∙ hit in cc)
+      ]
 
 -- an operation's pointer is to an allocation that is made
 pub uses_made : (done : List Inst) (m : ℕ) (env : Env) (o : Op) → Points done m env → uses_defined done o ≡ true → UsesMade m env o

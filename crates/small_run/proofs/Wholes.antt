@@ -1,6 +1,6 @@
 -- The logs of a thread that has ended are a right record, of which a report can be made.
-use Rattle.std.proofs.Common.{◌≡◌, ◌≢◌, ℕ, zero, suc, ◌+◌, ◌<◌, ◌≤◌, Bool, true, false, List, [], ◌∷◌, ◌++◌, Option, Some, None, IsTrue, refl, sym, ap, ◌∙◌, subst, arith, inl, inr, length, map, nat_eq, count_by}
-use Rattle.std.specs.Prelude.{if◌then◌else◌, ◌⊎◌, All, nat_le, IsPermutation, IsSome}
+use Rattle.std.proofs.Common.{◌≡◌, ◌≢◌, ℕ, zero, suc, ◌+◌, ◌<◌, ◌≤◌, true, false, List, [], ◌∷◌, ◌++◌, Option, Some, None, IsTrue, refl, sym, ap, ◌∙◌, subst, arith, inl, inr, length, map, nat_eq, count_by}
+use Rattle.std.specs.Prelude.{◌⊎◌, All, nat_le, IsPermutation, IsSome}
 use Rattle.std.specs.List.{flat_map, IsDistinct, AllByRecursion}
 use Rattle.std.proofs.lemmas.Bool.{cases_lt}
 use Rattle.std.proofs.lemmas.Bool.Decides.{eqb_tells, nat_tests}
@@ -36,7 +36,7 @@ use Rattle.runs.specs.Threads.{IsThreadRun}
 use Rattle.runs.specs.Tree.{IsEntryRight}
 use Rattle.runs.specs.Theorem.{HasPromises}
 use Rattle.runs.proofs.Assembly.{promises_make_one_run}
-use Rattle.runs.proofs.MergeLaws.{merged_is_merge, above_first}
+use Rattle.runs.proofs.MergeLaws.{merged_is_merge}
 use Rattle.runs.proofs.Differing.{rises_differ, both_differ, in_part, has_either, one_stamp, named_one}
 use Rattle.runs.proofs.Merges.{restrictions_swap, alloc_rises}
 use Rattle.source_sem.specs.Source.{source}

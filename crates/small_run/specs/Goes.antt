@@ -15,7 +15,7 @@ use Rattle.ir_ast.specs.declared.program.Program.{Program}
 use Rattle.run_record.specs.declared.log.End.{End}
 use Rattle.run_record.specs.declared.log.End.TheVariants as log_end
 use Rattle.runs.specs.Right.{alloc_limit_of, thread_limit_of}
-use Rattle.source_sem.specs.Env.{Env, value_in}
+use Rattle.source_sem.specs.Env.{Env, value_in, with_value}
 use Rattle.source_sem.specs.Source.{Source}
 use Rattle.small_run.specs.declared.steps.Halt.{Halt}
 use Rattle.small_run.specs.declared.steps.Halt.TheVariants as halt
@@ -42,7 +42,7 @@ UsesMade made env other = Unit {0}
 -- the register that is defined holds this, and where the operation gives a pointer, that is to an allocation that is made
 pub record IsBound (r : Named) (o : Op) (old new : Env) (made : ℕ) : Type 0 where
   pub value : Arg
-  pub env : new ≡ (r.name, value) ∷ old
+  pub env : new ≡ with_value r.name value old
   pub points : gives_pointer o ≡ true → IsMadeAt made value
 
 abbrev pub Defines : Option Named → Op → Env → Env → ℕ → Type 0
