@@ -1,5 +1,5 @@
 -- The logs of several trees, one tree after another.
-use Rattle.std.specs.Prelude.{◌≡◌, ℕ, ◌+◌, ◌≤◌, List, [], ◌∷◌, ◌++◌, length}
+use Rattle.std.specs.Prelude.{◌≡◌, ◌+◌, ◌≤◌, List, [], ◌∷◌, ◌++◌, length}
 use Rattle.std.proofs.Common.{arith, length-append, append_assoc, append-nil, ap, sym, ◌∙◌}
 use denote.Param.Weighed.{most}
 use Rattle.run_record.specs.declared.log.ThreadLog.{ThreadLog}

@@ -1,13 +1,11 @@
 -- Counts and weights of entries, in a list and in the merge of logs.
-use Rattle.std.proofs.Common.{◌≡◌, ℕ, zero, suc, ◌+◌, ◌<◌, ◌≤◌, Bool, true, false, cond, List, [], ◌∷◌, ◌++◌, refl, sym, ◌∙◌, ap, subst, inl, inr, arith, length, sum_by}
-use Rattle.std.specs.Prelude.{count_by, ◌⊎◌}
-use Rattle.std.specs.List.{flat_map}
-use Rattle.std.proofs.lemmas.Bool.{true≢false}
+use Rattle.std.proofs.Common.{◌≡◌, ℕ, zero, suc, ◌+◌, ◌≤◌, Bool, true, false, cond, List, [], ◌∷◌, refl, sym, ◌∙◌, ap, inl, inr, arith, length, sum_by}
+use Rattle.std.specs.Prelude.{count_by}
 use Rattle.std.proofs.lemmas.List.Sums.{sum_by-cons}
 use Rattle.history.specs.declared.entry.Entry.{Entry}
 use Rattle.run_record.specs.declared.log.ThreadLog.{ThreadLog}
 use Rattle.history.specs.Merge.{put_by_stamp}
-use Rattle.runs.specs.Merge.{merged_with, merged}
+use Rattle.runs.specs.Merge.{merged_with}
 use Rattle.runs.specs.Right.{AtLeast}
 use Rattle.runs.specs.Stamps.{Has}
 use Rattle.runs.proofs.MergeLaws.{at_most_tells}

@@ -1,9 +1,9 @@
 -- The numbers from k on, weighed; and lists of different numbers.
-use Rattle.std.proofs.Common.{◌≡◌, ◌≢◌, ℕ, zero, suc, ◌+◌, ◌-◌, ◌<◌, ◌≤◌, Bool, true, false, cond, List, [], ◌∷◌, ◌++◌, refl, sym, ◌∙◌, ap, subst, inl, inr, arith, length, sum_by, nat_eq, nat_le}
-use Rattle.std.specs.Prelude.{◌⊎◌, IsPermutation}
+use Rattle.std.proofs.Common.{◌≡◌, ◌≢◌, ℕ, zero, suc, ◌+◌, ◌-◌, ◌<◌, ◌≤◌, false, cond, List, [], ◌∷◌, ◌++◌, refl, sym, ◌∙◌, ap, inl, inr, arith, length, sum_by, nat_eq, nat_le}
+use Rattle.std.specs.Prelude.{IsPermutation}
 use Rattle.std.specs.List.{AllByRecursion, IsDistinct}
 use Rattle.std.proofs.lemmas.Bool.Decides.{eqb_tells, nat_tests}
-use Rattle.std.proofs.lemmas.List.Sums.{sum_by-cons, sum_by-append}
+use Rattle.std.proofs.lemmas.List.Sums.{sum_by-cons}
 use Rattle.std.proofs.lemmas.List.Sorted.{IsPermutation-sym}
 use Rattle.runs.specs.Right.{counting_from}
 use Rattle.runs.proofs.FiberLists.{Drawn, drawn_moved}
@@ -171,8 +171,7 @@ unfolding IsDistinct
 once_differ [] once = tt
 once_differ (x ∷ xs) once =
     let o = once x in
-    let same = equals_same x in
-    (
+    let same = equals_same x in (
       apart_once x xs (omega (arith, o, same, sum_by-cons (equals x) x xs)),
       once_differ xs (λ k. (let m = once k in omega (arith, m, sum_by-cons (equals k) x xs))),
     )

@@ -13,7 +13,7 @@ use Rattle.runs.specs.Machine.{Machine, Memory}
 use Rattle.runs.specs.Parts.{child_of}
 use Rattle.runs.specs.Right.{HasLog, AtLeast}
 use Rattle.runs.specs.Stamps.{Has}
-use Rattle.runs.specs.Tree.{children_of, numbers_of, started_by, IsFamily, IsStarted, IsJoined, HasStopped, IsTree}
+use Rattle.runs.specs.Tree.{children_of, started_by, IsFamily, IsStarted, IsJoined, HasStopped, IsTree}
 use Rattle.runs.proofs.Counting.{at_least_later}
 use Rattle.runs.proofs.LogLists.{entry_weighs, some_log}
 use Rattle.runs.proofs.Weights.{equals, equals_same, sum_flat}

@@ -8,11 +8,10 @@ use Rattle.history.specs.declared.ask.MachineEnd.{MachineEnd}
 use Rattle.history.specs.declared.ask.MachineEnd.TheVariants as end
 use Rattle.history.specs.declared.trap.Trap.{Trap}
 use Rattle.history.specs.declared.trap.Trap.TheVariants as trap
-use Rattle.run_record.specs.declared.log.End.{End}
 use Rattle.run_record.specs.declared.log.End.TheVariants as log_end
 use Rattle.runs.specs.Machine.{Machine}
-use Rattle.runs.specs.Replay.{RestsAs, IsOwnEnd}
-use Rattle.runs.specs.Threads.{IsOwnTrap, EndsAs, TrapsAs}
+use Rattle.runs.specs.Replay.{RestsAs}
+use Rattle.runs.specs.Threads.{IsOwnTrap, TrapsAs}
 
 no_trap : (limits : Limits) (a : Ask) (t : Trap) → ((why : MachineEnd) → a ≡ ask.Ended why → ⊥) → IsOwnTrap t → TrapsAs limits a t → ⊥
 no_trap limits a t goes own (inl is) = goes (end.Trapped t) is

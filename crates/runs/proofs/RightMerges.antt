@@ -1,5 +1,5 @@
 -- The logs of a right record may merge: stamps rise along each, and no stamp stands in two, since each stands once in the merge.
-use Rattle.std.proofs.Common.{◌≡◌, ◌≢◌, ℕ, ◌+◌, ◌<◌, ◌≤◌, List, [], ◌∷◌, refl, subst, ap, inl, inr, arith}
+use Rattle.std.proofs.Common.{◌≡◌, ◌≢◌, ℕ, ◌<◌, List, [], ◌∷◌, refl, subst, ap, inl, inr, arith}
 use Rattle.std.specs.List.{AllByRecursion}
 use Rattle.std.proofs.lemmas.List.Elements.{recursion_from_All}
 use Rattle.bsan_ids.specs.declared.numbers.ThreadNo.{ThreadNo}
@@ -16,7 +16,7 @@ use Rattle.runs.specs.Stamps.{Has, RisesFrom}
 use Rattle.runs.specs.Threads.{IsThreadRun}
 use Rattle.runs.proofs.FiberLists.{numbered_rises}
 use Rattle.runs.proofs.MergeLaws.{at_most_tells, above_first}
-use Rattle.runs.proofs.Tying.{in_inserted_first, in_merge_other}
+use Rattle.runs.proofs.Tying.{in_merge_other}
 
 -- of a list that rises: what was put into it has another stamp than each of the others, which rise
 put_apart : (n : ℕ) (x : Entry) (ys : List Entry) → RisesFrom n (put_by_stamp x ys) → RisesFrom n ys × ((y : Entry) → Has ys y → y.stamp.0 ≢ x.stamp.0)

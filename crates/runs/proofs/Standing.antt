@@ -1,6 +1,6 @@
 -- A thread's last state is told by its log and its count of instructions.
 use Rattle.std.proofs.Common.{◌≡◌, ℕ, zero, suc, ◌+◌, List, [], ◌∷◌, refl, sym, ◌∙◌, ap, subst, inl, inr, arith}
-use Rattle.std.specs.Prelude.{Some, ◌==◌, if◌then◌else◌}
+use Rattle.std.specs.Prelude.{Some}
 use Rattle.std.proofs.lemmas.Bool.Decides.{eqb_tells}
 use Rattle.bsan_ids.specs.declared.numbers.Limits.{Limits}
 use Rattle.history.specs.declared.ask.Ask.TheVariants as ask
@@ -11,7 +11,7 @@ use Rattle.runs.specs.Merge.{entries_of}
 use Rattle.runs.specs.Parts.{Answers, child_of}
 use Rattle.runs.specs.Right.{HasLog, HasRuns, IsReached, is_main, is_spawned}
 use Rattle.runs.specs.Stamps.{Has}
-use Rattle.runs.specs.Threads.{Fed, Feeds, StartsAs, CountsTurns, StandsOnce}
+use Rattle.runs.specs.Threads.{Feeds, StartsAs, CountsTurns, StandsOnce}
 
 module _ (M : Machine) (counts : CountsTurns M) (limit : ℕ) (starts : ℕ → M.State) where
   turned_count : (n : ℕ) (s t : M.State) → TurnsWithin M limit n s t → M.count t ≡ M.count s + n

@@ -113,7 +113,7 @@ stands_among M A limits main start logs a b order own log e g h (request.Spawn f
         | inr sp ↦
             let one = sp.once in
             let same : s ≡ e = one_passes (starts_thread child.0.number.0) (merged logs) s e (omega (arith, one)) in_ (in_merge logs log e g h)
-                (starts_one s child.0.number.0 (child_s ∙ ap Some (sym number'))) (starts_one e child.0.number.0 (child_is ∙ ap Some (sym number'))) in
+            (starts_one s child.0.number.0 (child_s ∙ ap Some (sym number'))) (starts_one e child.0.number.0 (child_is ∙ ap Some (sym number'))) in
             ap (λ (z : Entry). z.stamp.0) same
       ],
       right.3,

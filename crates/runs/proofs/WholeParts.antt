@@ -1,14 +1,12 @@
 -- Parts of the law of whole runs: first states by a list, sums of stamps and of numbers, and what replies name.
-use Rattle.std.proofs.Common.{◌≡◌, ◌≢◌, ℕ, zero, suc, ◌+◌, ◌<◌, ◌≤◌, Bool, true, false, cond, List, [], ◌∷◌, ◌++◌, refl, sym, ◌∙◌, ap, subst, inl, inr, arith, map, length, sum_by}
-use Rattle.std.specs.Prelude.{◌⊎◌, ◌==◌, Some, None, if◌then◌else◌, count_by}
+use Rattle.std.proofs.Common.{◌≡◌, ◌≢◌, ℕ, ◌+◌, ◌<◌, ◌≤◌, Bool, true, false, cond, List, [], ◌∷◌, ◌++◌, refl, sym, ◌∙◌, ap, subst, inl, inr, arith, map, length, sum_by}
+use Rattle.std.specs.Prelude.{◌⊎◌, ◌==◌, Some, None, if◌then◌else◌}
 use Rattle.std.specs.List.{flat_map}
 use Rattle.std.specs.declared.option.Option.{Option}
 use Rattle.std.proofs.lemmas.Bool.{true≢false}
 use Rattle.std.proofs.lemmas.Bool.Decides.{eqb_tells}
 use Rattle.std.proofs.lemmas.List.{length-append}
 use Rattle.std.proofs.lemmas.List.Sums.{sum_by-cons, sum_by-append}
-use Rattle.bsan_ids.specs.declared.numbers.AllocNo.{AllocNo}
-use Rattle.bsan_ids.specs.declared.numbers.ThreadNo.{ThreadNo}
 use Rattle.history.specs.declared.entry.Entry.{Entry}
 use Rattle.history.specs.declared.entry.Plain.{Plain}
 use Rattle.history.specs.declared.entry.Plain.TheVariants as plain
@@ -17,11 +15,10 @@ use Rattle.history.specs.declared.entry.Request.{Request}
 use Rattle.history.specs.declared.entry.Request.TheVariants as request
 use Rattle.run_record.specs.declared.log.AllocLog.{AllocLog}
 use Rattle.run_record.specs.declared.log.End.{End}
-use Rattle.run_record.specs.declared.log.End.TheVariants as log_end
 use Rattle.run_record.specs.declared.log.ThreadLog.{ThreadLog}
 use Rattle.runs.specs.Interleaving.{World, world_after, Allowed, Replies, Interleaves, Legal, MakesUnmade}
 use Rattle.runs.specs.Machine.{Machine, Memory}
-use Rattle.runs.specs.Merge.{merged, IsOwn, MayMerge, no_logs, one_more}
+use Rattle.runs.specs.Merge.{IsOwn, MayMerge, no_logs, one_more}
 use Rattle.runs.specs.Parts.{names, of_alloc, child_of, is_child, spawned_by, spawned_of}
 use Rattle.runs.specs.ReplayLaw.{makes, MakesAlone}
 use Rattle.runs.specs.Right.{HasLog, AllocsRiseFrom, history_of, starts_thread, beyond, beyond_of, made_by, spawned_by_reply}
@@ -31,7 +28,7 @@ use Rattle.runs.proofs.Counting.{one_if}
 use Rattle.runs.proofs.LogLists.{entry_weighs, log_weighs}
 use Rattle.runs.proofs.ReplaySums.{spawns}
 use Rattle.runs.proofs.Tying.{log_of_entry}
-use Rattle.runs.proofs.Weights.{equals, equals_cases, equals_same, equals_other, sum_map}
+use Rattle.runs.proofs.Weights.{equals, equals_same, sum_map}
 
 -- first states by a list in which each number stands once -------------------------------
 
@@ -111,8 +108,15 @@ pub stamps_weigh : (h : ℕ → ℕ) (ls : List ThreadLog) → sum_by h (flat_ma
 stamps_weigh h [] = let nothing : sum_by h [] ≡ 0 = refl in let none : sum_by (λ (e : Entry). h e.stamp.0) [] ≡ 0 = refl in omega (arith, nothing, none)
 stamps_weigh h (l ∷ ls) =
     let more = stamps_weigh h ls in
-    omega (arith, more, sum_by-append h (stamps_of l) (flat_map stamps_of ls), sum_by-append h (map (λ (e : Entry). e.stamp.0) l.entries) (beyond_of l.«end»), sum_map h (λ (e : Entry). e.stamp.0) l.entries,
-    sum_by-append (λ (e : Entry). h e.stamp.0) l.entries (all_entries ls), sum_by-append h (beyond_of l.«end») (beyond ls))
+    omega (
+      arith,
+      more,
+      sum_by-append h (stamps_of l) (flat_map stamps_of ls),
+      sum_by-append h (map (λ (e : Entry). e.stamp.0) l.entries) (beyond_of l.«end»),
+      sum_map h (λ (e : Entry). e.stamp.0) l.entries,
+      sum_by-append (λ (e : Entry). h e.stamp.0) l.entries (all_entries ls),
+      sum_by-append h (beyond_of l.«end») (beyond ls),
+    )
 
 pub beyond_weigh : (h k : ℕ → ℕ) (ls : List ThreadLog) → ((l : ThreadLog) → HasLog ls l → sum_by h (beyond_of l.«end») ≡ sum_by k (beyond_of l.«end»)) → sum_by h (beyond ls) ≡ sum_by k (beyond ls)
 beyond_weigh h k [] same = refl
@@ -148,8 +152,15 @@ numbers_count k limit (l ∷ ls) =
     let more = numbers_count k limit ls in
     let f : ThreadLog → List ℕ = λ m. flat_map (λ (e : Entry). k e.reply.plain) m.entries ++ limit m.«end» in
     let g : ThreadLog → List ℕ = λ m. limit m.«end» in
-    omega (arith, more, length-append (f l) (flat_map f ls), length-append (flat_map (λ (e : Entry). k e.reply.plain) l.entries) (limit l.«end»), length_flat l.entries,
-    sum_by-append (λ (e : Entry). length (k e.reply.plain)) l.entries (all_entries ls), length-append (g l) (flat_map g ls))
+    omega (
+      arith,
+      more,
+      length-append (f l) (flat_map f ls),
+      length-append (flat_map (λ (e : Entry). k e.reply.plain) l.entries) (limit l.«end»),
+      length_flat l.entries,
+      sum_by-append (λ (e : Entry). length (k e.reply.plain)) l.entries (all_entries ls),
+      length-append (g l) (flat_map g ls),
+    )
   where
     length_flat : (es : List Entry) → length (flat_map (λ (e : Entry). k e.reply.plain) es) ≡ sum_by (λ (e : Entry). length (k e.reply.plain)) es
     length_flat [] = refl

@@ -1,6 +1,6 @@
 -- The record of a whole run is right.
-use Rattle.std.proofs.Common.{◌≡◌, ◌≢◌, ℕ, zero, suc, ◌+◌, ◌<◌, ◌≤◌, Bool, true, false, cond, List, [], ◌∷◌, ◌++◌, refl, sym, ◌∙◌, ap, subst, inl, inr, arith, length, sum_by}
-use Rattle.std.specs.Prelude.{◌⊎◌, Some, None, count_by, IsPermutation, All, nat_eq}
+use Rattle.std.proofs.Common.{◌≡◌, ℕ, zero, suc, ◌+◌, ◌<◌, ◌≤◌, Bool, true, false, cond, List, [], ◌∷◌, ◌++◌, refl, sym, ◌∙◌, ap, subst, inl, inr, arith, length, sum_by}
+use Rattle.std.specs.Prelude.{◌⊎◌, Some, None, count_by, IsPermutation}
 use Rattle.std.specs.List.{flat_map, AllByRecursion, IsDistinct}
 use Rattle.std.proofs.lemmas.Bool.{true≢false}
 use Rattle.std.proofs.lemmas.List.{length-append}
@@ -22,16 +22,16 @@ use Rattle.run_record.specs.declared.log.ThreadLog.{ThreadLog}
 use Rattle.run_record.specs.declared.record.RunRecord.{RunRecord}
 use Rattle.runs.specs.Interleaving.{Allowed, Legal, first_world}
 use Rattle.runs.specs.Machine.{Machine, Memory}
-use Rattle.runs.specs.Merge.{merged, entries_of, MayMerge, IsMerge}
+use Rattle.runs.specs.Merge.{merged, MayMerge, IsMerge}
 use Rattle.runs.specs.Parts.{names, of_alloc, of_thread, child_of, spawned_by, spawned_of}
 use Rattle.runs.specs.ReplayLaw.{makes, MakesAlone}
-use Rattle.runs.specs.Right.{HasLog, NumbersRiseFrom, HasThreads, HasRuns, HasHistories, HasCounts, MergesToRun, IsRight, IsReached, is_main, is_spawned, end_of, history_of, starts_thread, beyond, beyond_of, counting_from, alloc_numbers, thread_numbers, made_by, spawned_by_reply, alloc_limit_of, thread_limit_of, is_make, is_spawn, asks_make, asks_spawn, StandsAsking, AtLeast, DrawnAtMost}
+use Rattle.runs.specs.Right.{HasLog, NumbersRiseFrom, HasThreads, HasRuns, HasHistories, HasCounts, MergesToRun, IsRight, IsReached, is_main, is_spawned, end_of, history_of, starts_thread, beyond, beyond_of, counting_from, alloc_numbers, thread_numbers, made_by, spawned_by_reply, alloc_limit_of, thread_limit_of, is_make, is_spawn, asks_make, asks_spawn, StandsAsking, DrawnAtMost}
 use Rattle.runs.specs.Stamps.{Has, RisesFrom}
 use Rattle.runs.specs.Theorem.{HasPromises, WholeRunsAreRight, NumbersDiffer}
 use Rattle.runs.specs.Threads.{EndsAs}
 use Rattle.runs.specs.Tree.{HasStampOrder, IsEntryRight, all_entries, numbers_of, stamps_of, started_by, children_of, IsStarted, AreRuns, IsTree, IsWholeRun}
 use Rattle.runs.proofs.Assembly.{promises_make_one_run}
-use Rattle.runs.proofs.Counting.{one_if, one_passes, count_there, length_with}
+use Rattle.runs.proofs.Counting.{one_if, one_passes, count_there}
 use Rattle.runs.proofs.Countings.{length_counting, counting_once, counting_zero, once_differ, counting_high, counting_split, up_to, above, one, low_up_to, low_above, high_up_to, high_above, counting_up_to, counting_beyond, counting_not_above, counting_above, Cut, cut, some_drawn}
 use Rattle.runs.proofs.Differing.{in_part}
 use Rattle.runs.proofs.FiberLists.{drawn_moved}
@@ -488,9 +488,16 @@ children_named h [] = omega arith
 children_named h (l ∷ ls) =
     let more = children_named h ls in
     let here = list_less (λ (e : Entry). sum_by h (started_by (child_of e))) (λ (e : Entry). sum_by h (spawned_by_reply e.reply.plain)) l.entries (λ e g. child_named h e.request e.reply.plain) in
-    omega (arith, more, here, sum_by-append h (children_of l) (flat_map children_of ls), sum_by-append h (thread_numbers l) (flat_map thread_numbers ls),
-    sum_flat h (λ (e : Entry). started_by (child_of e)) l.entries, sum_flat h (λ (e : Entry). spawned_by_reply e.reply.plain) l.entries,
-    sum_by-append h (flat_map (λ (e : Entry). spawned_by_reply e.reply.plain) l.entries) (thread_limit_of l.«end»))
+    omega (
+      arith,
+      more,
+      here,
+      sum_by-append h (children_of l) (flat_map children_of ls),
+      sum_by-append h (thread_numbers l) (flat_map thread_numbers ls),
+      sum_flat h (λ (e : Entry). started_by (child_of e)) l.entries,
+      sum_flat h (λ (e : Entry). spawned_by_reply e.reply.plain) l.entries,
+      sum_by-append h (flat_map (λ (e : Entry). spawned_by_reply e.reply.plain) l.entries) (thread_limit_of l.«end»),
+    )
 
 pub numbers_differ : (M : Machine) (O : Memory) (A : Allowed) → NumbersDiffer M O A
 numbers_differ M O A limits main start logs allocs words w = once_differ (numbers_of logs) once_here

@@ -1,5 +1,5 @@
 -- What a replay begins with, the record that it leaves, and when that record is right.
-use Rattle.std.specs.Prelude.{◌≡◌, ℕ, zero, suc, Bool, true, false, List, [], ◌∷◌, None, unwrap_or}
+use Rattle.std.specs.Prelude.{◌≡◌, ℕ, zero, suc, false, List, [], ◌∷◌, None, unwrap_or}
 use Rattle.bsan_ids.specs.declared.numbers.Limits.{Limits}
 use Rattle.history.specs.declared.entry.Entry.{Entry}
 pub use Rattle.history.specs.Histories.{is_make as makes}

@@ -1,6 +1,6 @@
 -- What a right record says of its allocation logs is that they are legal histories.
 use Rattle.std.proofs.Common.{◌≡◌, ℕ, zero, suc, ◌+◌, ◌≤◌, Bool, true, false, cond, List, [], ◌∷◌, map, refl, sym, ◌∙◌, ap, subst, inl, inr, arith}
-use Rattle.std.specs.Prelude.{Some, None, is_some, IsTrue, count_by, if◌then◌else◌}
+use Rattle.std.specs.Prelude.{Some, None, is_some, IsTrue, count_by}
 use Rattle.std.specs.List.{AllByRecursion}
 use Rattle.std.specs.List.Sorted.{IsStrictlyIncreasing}
 use Rattle.std.specs.declared.option.Option.{Option}
@@ -24,7 +24,7 @@ use Rattle.runs.specs.Interleaving.{Legal, MakesUnmade}
 use Rattle.runs.specs.Machine.{TurnsWithin}
 use Rattle.runs.specs.Merge.{entries_of}
 use Rattle.runs.specs.Objects.{objects}
-use Rattle.runs.specs.Parts.{of_alloc, names, child_of, Answers}
+use Rattle.runs.specs.Parts.{names, child_of, Answers}
 use Rattle.runs.specs.Right.{HasLog, history_of}
 use Rattle.runs.specs.Stamps.{Has, RisesFrom}
 use Rattle.runs.specs.Threads.{Feeds, StartsAs}

@@ -1,21 +1,19 @@
 -- The worked replays, pick by pick.
-use Rattle.std.proofs.Common.{◌≡◌, ◌≢◌, ℕ, zero, suc, ◌<◌, Bool, true, false, List, [], ◌∷◌, refl, sym, ap, ◌∙◌, inl, inr, arith}
+use Rattle.std.proofs.Common.{◌≡◌, ◌≢◌, ℕ, zero, suc, ◌<◌, true, false, List, [], ◌∷◌, refl, sym, ap, ◌∙◌, inr, arith}
 use Rattle.std.specs.Prelude.{Some, None, slice_get, unwrap_or}
 use Rattle.std.specs.declared.option.Option.{Option}
 use Rattle.std.proofs.lemmas.Bool.{true≢false}
-use Rattle.history.specs.declared.ask.Ask.TheVariants as ask
-use Rattle.history.specs.declared.ask.MachineEnd.{MachineEnd}
 use Rattle.history.specs.declared.entry.Entry.{Entry}
 use Rattle.ir_ast.specs.declared.program.Program.{Program}
 use Rattle.run_record.specs.declared.log.End.{End}
 use Rattle.run_record.specs.declared.log.End.TheVariants as log_end
 use Rattle.runs.specs.Machine.{Machine}
 use Rattle.runs.specs.Objects.{objects}
-use Rattle.runs.specs.Replay.{Fiber, Progress, Ends, Steps, waits, RestsAs, Chooses, CanGoOn, picked, Picks, Plays}
+use Rattle.runs.specs.Replay.{Fiber, Progress, Ends, Steps, waits, Chooses, CanGoOn, picked, Picks, Plays}
 use Rattle.runs.specs.ReplayLaw.{first_progress}
 use Rattle.runs.proofs.Resting.{goes_on}
 use Rattle.runs.proofs.Tracking.{some_inj}
-use Rattle.source_sem.specs.Source.{Setting, Source, source, source_ask, source_turn, source_answer}
+use Rattle.source_sem.specs.Source.{Setting, Source, source, source_turn}
 use Rattle.source_sem.specs.Starting.{setting_of, main_of, main_start}
 use Rattle.source_sem.specs.Traces.{alloc}
 use Rattle.source_runs.specs.Setting.{allowed}
@@ -142,28 +140,27 @@ l4 = step racing l3 0 started None
 
 -- both schedules begin with four picks of main
 first_four : (q : P racing) (ts : List ℕ) → Plays (M racing) objects (allowed limits no_hosts) limits l4 ts q → Plays (M racing) objects (allowed limits no_hosts) limits (begin racing) (0 ∷ 0 ∷ 0 ∷ 0 ∷ ts) q
-first_four q ts rest =
+first_four q ts rest = (
+  l1,
+  stepped racing (begin racing) 0 made None (ready racing (begin racing) 0 refl refl refl)
+      ((0, refl), λ h. few 0 (omega arith), few_allocs 0 (omega arith), few 0 (omega arith), refl, refl, refl, refl, (refl, refl), goes_on (M racing) limits (state racing l1 0) (λ why h. cc) (other_count 1 (omega arith))),
+  (
+    l2,
+    stepped racing l1 0 retagged None (ready racing l1 0 refl refl refl)
+        ((0, refl), λ h. few 1 (omega arith), tt, few 1 (omega arith), refl, refl, refl, (refl, refl, tt), (alloc 1, refl, refl), goes_on (M racing) limits (state racing l2 0) (λ why h. cc) (other_count 2 (omega arith))),
     (
-      l1,
-      stepped racing (begin racing) 0 made None (ready racing (begin racing) 0 refl refl refl)
-          ((0, refl), λ h. few 0 (omega arith), few_allocs 0 (omega arith), few 0 (omega arith), refl, refl, refl, refl, (refl, refl), goes_on (M racing) limits (state racing l1 0) (λ why h. cc) (other_count 1 (omega arith))),
+      l3,
+      stepped racing l2 0 stored None (ready racing l2 0 refl refl refl)
+          ((0, refl), λ h. few 2 (omega arith), tt, few 2 (omega arith), refl, refl, refl, (refl, refl, tt), (alloc 1, refl, refl), goes_on (M racing) limits (state racing l3 0) (λ why h. cc) (other_count 3 (omega arith))),
       (
-        l2,
-        stepped racing l1 0 retagged None (ready racing l1 0 refl refl refl)
-            ((0, refl), λ h. few 1 (omega arith), tt, few 1 (omega arith), refl, refl, refl, (refl, refl, tt), (alloc 1, refl, refl), goes_on (M racing) limits (state racing l2 0) (λ why h. cc) (other_count 2 (omega arith))),
-        (
-          l3,
-          stepped racing l2 0 stored None (ready racing l2 0 refl refl refl)
-              ((0, refl), λ h. few 2 (omega arith), tt, few 2 (omega arith), refl, refl, refl, (refl, refl, tt), (alloc 1, refl, refl), goes_on (M racing) limits (state racing l3 0) (λ why h. cc) (other_count 3 (omega arith))),
-          (
-            l4,
-            stepped racing l3 0 started None (ready racing l3 0 refl refl refl)
-                ((0, refl), λ h. few 3 (omega arith), few_threads 0 (omega arith), few 3 (omega arith), refl, refl, refl, (refl, refl), refl, goes_on (M racing) limits (state racing l4 0) (λ why h. cc) (other_count 4 (omega arith))),
-            rest,
-          ),
-        ),
+        l4,
+        stepped racing l3 0 started None (ready racing l3 0 refl refl refl)
+            ((0, refl), λ h. few 3 (omega arith), few_threads 0 (omega arith), few 3 (omega arith), refl, refl, refl, (refl, refl), refl, goes_on (M racing) limits (state racing l4 0) (λ why h. cc) (other_count 4 (omega arith))),
+        rest,
       ),
-    )
+    ),
+  ),
+)
 
 abbrev early_load : Entry
 early_load = unwrap_or (slice_get load_first 4) made
@@ -199,8 +196,7 @@ load_first_runs = record {
     mid = l6;
     picks = 1 ∷ 0 ∷ 0 ∷ [];
     scheduled =
-        first_four l6 (1 ∷ 0 ∷ [])
-        (
+        first_four l6 (1 ∷ 0 ∷ []) (
           l5,
           stepped racing l4 1 early_load None (ready racing l4 1 refl refl refl)
               ((0, refl), λ h. few 0 (omega arith), tt, few 4 (omega arith), refl, refl, refl, (refl, refl, tt), (alloc 1, refl, refl), goes_on (M racing) limits (state racing l5 1) (λ why h. cc) (other_count 1 (omega arith))),
@@ -211,34 +207,33 @@ load_first_runs = record {
             refl,
           ),
         );
-    least =
+    least = (
+      can racing l6 1 (ready racing l6 1 refl refl refl),
+      one_other (λ u. CanGoOn (M racing) objects l6 u → ⊥) (stays racing l6 0 refl refl),
+      (
+        l7,
+        ended racing l6 1 returned (ready racing l6 1 refl refl refl) ((1, (refl, λ h. few 1 (omega arith), refl)), (refl, λ h. not_begun h), tt),
         (
-          can racing l6 1 (ready racing l6 1 refl refl refl),
-          one_other (λ u. CanGoOn (M racing) objects l6 u → ⊥) (stays racing l6 0 refl refl),
+          can racing l7 0 (ready racing l7 0 refl refl refl),
+          (λ u less c. no_other u less),
           (
-            l7,
-            ended racing l6 1 returned (ready racing l6 1 refl refl refl) ((1, (refl, λ h. few 1 (omega arith), refl)), (refl, λ h. not_begun h), tt),
+            l8,
+            stepped racing l7 0 join_loader None (ready racing l7 0 refl refl refl)
+                ((0, refl), λ h. few 5 (omega arith), (0, None, refl), few 6 (omega arith), refl, refl, refl, (refl, refl), (0, None, refl, refl), goes_on (M racing) limits (state racing l8 0) (λ why h. cc) (other_count 6 (omega arith))),
             (
-              can racing l7 0 (ready racing l7 0 refl refl refl),
+              can racing l8 0 (ready racing l8 0 refl refl refl),
               (λ u less c. no_other u less),
               (
-                l8,
-                stepped racing l7 0 join_loader None (ready racing l7 0 refl refl refl)
-                    ((0, refl), λ h. few 5 (omega arith), (0, None, refl), few 6 (omega arith), refl, refl, refl, (refl, refl), (0, None, refl, refl), goes_on (M racing) limits (state racing l8 0) (λ why h. cc) (other_count 6 (omega arith))),
-                (
-                  can racing l8 0 (ready racing l8 0 refl refl refl),
-                  (λ u less c. no_other u less),
-                  (
-                    l9,
-                    stepped racing l8 0 free_closed (Some returned) (ready racing l8 0 refl refl refl)
-                        ((0, refl), λ h. few 6 (omega arith), tt, few 7 (omega arith), refl, refl, refl, (refl, refl, tt), (alloc 1, refl, refl), (tt, (refl, λ h. not_begun h))),
-                    refl,
-                  ),
-                ),
+                l9,
+                stepped racing l8 0 free_closed (Some returned) (ready racing l8 0 refl refl refl)
+                    ((0, refl), λ h. few 6 (omega arith), tt, few 7 (omega arith), refl, refl, refl, (refl, refl, tt), (alloc 1, refl, refl), (tt, (refl, λ h. not_begun h))),
+                refl,
               ),
             ),
           ),
-        );
+        ),
+      ),
+    );
     over = all_over;
   };
   merge = refl;
@@ -285,8 +280,7 @@ write_first_runs = record {
     mid = w6;
     picks = 1 ∷ 0 ∷ 0 ∷ [];
     scheduled =
-        first_four w6 (0 ∷ 1 ∷ [])
-        (
+        first_four w6 (0 ∷ 1 ∷ []) (
           w5,
           stepped racing l4 0 early_store None (ready racing l4 0 refl refl refl)
               ((0, refl), λ h. few 4 (omega arith), tt, few 4 (omega arith), refl, refl, refl, (refl, refl, tt), (alloc 1, refl, refl), goes_on (M racing) limits (state racing w5 0) (λ why h. cc) (other_count 5 (omega arith))),
@@ -297,34 +291,33 @@ write_first_runs = record {
             refl,
           ),
         );
-    least =
+    least = (
+      can racing w6 1 (ready racing w6 1 refl refl refl),
+      one_other (λ u. CanGoOn (M racing) objects w6 u → ⊥) (stays racing w6 0 refl refl),
+      (
+        w7,
+        ended racing w6 1 returned (ready racing w6 1 refl refl refl) ((1, (refl, λ h. few 1 (omega arith), refl)), (refl, λ h. not_begun h), tt),
         (
-          can racing w6 1 (ready racing w6 1 refl refl refl),
-          one_other (λ u. CanGoOn (M racing) objects w6 u → ⊥) (stays racing w6 0 refl refl),
+          can racing w7 0 (ready racing w7 0 refl refl refl),
+          (λ u less c. no_other u less),
           (
-            w7,
-            ended racing w6 1 returned (ready racing w6 1 refl refl refl) ((1, (refl, λ h. few 1 (omega arith), refl)), (refl, λ h. not_begun h), tt),
+            w8,
+            stepped racing w7 0 join_late None (ready racing w7 0 refl refl refl)
+                ((0, refl), λ h. few 5 (omega arith), (0, None, refl), few 6 (omega arith), refl, refl, refl, (refl, refl), (0, None, refl, refl), goes_on (M racing) limits (state racing w8 0) (λ why h. cc) (other_count 6 (omega arith))),
             (
-              can racing w7 0 (ready racing w7 0 refl refl refl),
+              can racing w8 0 (ready racing w8 0 refl refl refl),
               (λ u less c. no_other u less),
               (
-                w8,
-                stepped racing w7 0 join_late None (ready racing w7 0 refl refl refl)
-                    ((0, refl), λ h. few 5 (omega arith), (0, None, refl), few 6 (omega arith), refl, refl, refl, (refl, refl), (0, None, refl, refl), goes_on (M racing) limits (state racing w8 0) (λ why h. cc) (other_count 6 (omega arith))),
-                (
-                  can racing w8 0 (ready racing w8 0 refl refl refl),
-                  (λ u less c. no_other u less),
-                  (
-                    w9,
-                    stepped racing w8 0 free_clean (Some returned) (ready racing w8 0 refl refl refl)
-                        ((0, refl), λ h. few 6 (omega arith), tt, few 7 (omega arith), refl, refl, refl, (refl, refl, tt), (alloc 1, refl, refl), (tt, (refl, λ h. not_begun h))),
-                    refl,
-                  ),
-                ),
+                w9,
+                stepped racing w8 0 free_clean (Some returned) (ready racing w8 0 refl refl refl)
+                    ((0, refl), λ h. few 6 (omega arith), tt, few 7 (omega arith), refl, refl, refl, (refl, refl, tt), (alloc 1, refl, refl), (tt, (refl, λ h. not_begun h))),
+                refl,
               ),
             ),
           ),
-        );
+        ),
+      ),
+    );
     over = all_over;
   };
   merge = refl;
@@ -394,62 +387,60 @@ ended_at_once_runs = record {
   replay = record {
     mid = e7;
     picks = 2 ∷ 0 ∷ [];
-    scheduled =
+    scheduled = (
+      e1,
+      stepped ending (begin ending) 0 made_heap None (ready ending (begin ending) 0 refl refl refl)
+          ((0, refl), λ h. few 0 (omega arith), few_allocs 0 (omega arith), few 0 (omega arith), refl, refl, refl, refl, (refl, refl), goes_on (M ending) limits (state ending e1 0) (λ why h. cc) (other_count 1 (omega arith))),
+      (
+        e2,
+        stepped ending e1 0 started_one None (ready ending e1 0 refl refl refl)
+            ((0, refl), λ h. few 1 (omega arith), few_threads 0 (omega arith), few 1 (omega arith), refl, refl, refl, (refl, refl), refl, goes_on (M ending) limits (state ending e2 0) (λ why h. cc) (other_count 2 (omega arith))),
         (
-          e1,
-          stepped ending (begin ending) 0 made_heap None (ready ending (begin ending) 0 refl refl refl)
-              ((0, refl), λ h. few 0 (omega arith), few_allocs 0 (omega arith), few 0 (omega arith), refl, refl, refl, refl, (refl, refl), goes_on (M ending) limits (state ending e1 0) (λ why h. cc) (other_count 1 (omega arith))),
+          e3,
+          stepped ending e2 0 started_two None (ready ending e2 0 refl refl refl)
+              ((0, refl), λ h. few 2 (omega arith), few_threads 1 (omega arith), few 2 (omega arith), refl, refl, refl, (refl, refl), refl, goes_on (M ending) limits (state ending e3 0) (λ why h. cc) (other_count 3 (omega arith))),
           (
-            e2,
-            stepped ending e1 0 started_one None (ready ending e1 0 refl refl refl)
-                ((0, refl), λ h. few 1 (omega arith), few_threads 0 (omega arith), few 1 (omega arith), refl, refl, refl, (refl, refl), refl, goes_on (M ending) limits (state ending e2 0) (λ why h. cc) (other_count 2 (omega arith))),
+            e4,
+            stepped ending e3 1 entered None (ready ending e3 1 refl refl refl)
+                ((0, refl), λ h. few 0 (omega arith), tt, few 3 (omega arith), refl, refl, refl, (refl, refl, tt), (alloc 1, refl, refl), goes_on (M ending) limits (state ending e4 1) (λ why h. cc) (other_count 0 (omega arith))),
             (
-              e3,
-              stepped ending e2 0 started_two None (ready ending e2 0 refl refl refl)
-                  ((0, refl), λ h. few 2 (omega arith), few_threads 1 (omega arith), few 2 (omega arith), refl, refl, refl, (refl, refl), refl, goes_on (M ending) limits (state ending e3 0) (λ why h. cc) (other_count 3 (omega arith))),
+              e5,
+              stepped ending e4 1 unprotected (Some returned) (ready ending e4 1 refl refl refl)
+                  ((0, refl), λ h. few 0 (omega arith), tt, few 4 (omega arith), refl, refl, refl, (refl, refl, tt), (alloc 1, refl, refl), (tt, (refl, λ h. not_begun h))),
               (
-                e4,
-                stepped ending e3 1 entered None (ready ending e3 1 refl refl refl)
-                    ((0, refl), λ h. few 0 (omega arith), tt, few 3 (omega arith), refl, refl, refl, (refl, refl, tt), (alloc 1, refl, refl), goes_on (M ending) limits (state ending e4 1) (λ why h. cc) (other_count 0 (omega arith))),
+                e6,
+                stepped ending e5 0 join_one None (ready ending e5 0 refl refl refl)
+                    ((0, refl), λ h. few 3 (omega arith), (0, None, refl), few 5 (omega arith), refl, refl, refl, (refl, refl), (0, None, refl, refl), goes_on (M ending) limits (state ending e6 0) (λ why h. cc) (other_count 4 (omega arith))),
                 (
-                  e5,
-                  stepped ending e4 1 unprotected (Some returned) (ready ending e4 1 refl refl refl)
-                      ((0, refl), λ h. few 0 (omega arith), tt, few 4 (omega arith), refl, refl, refl, (refl, refl, tt), (alloc 1, refl, refl), (tt, (refl, λ h. not_begun h))),
-                  (
-                    e6,
-                    stepped ending e5 0 join_one None (ready ending e5 0 refl refl refl)
-                        ((0, refl), λ h. few 3 (omega arith), (0, None, refl), few 5 (omega arith), refl, refl, refl, (refl, refl), (0, None, refl, refl), goes_on (M ending) limits (state ending e6 0) (λ why h. cc) (other_count 4 (omega arith))),
-                    (
-                      e7,
-                      stepped ending e6 2 load_two None (ready ending e6 2 refl refl refl)
-                          ((0, refl), λ h. few 0 (omega arith), tt, few 6 (omega arith), refl, refl, refl, (refl, refl, tt), (alloc 1, refl, refl), goes_on (M ending) limits (state ending e7 2) (λ why h. cc) (other_count 1 (omega arith))),
-                      refl,
-                    ),
-                  ),
+                  e7,
+                  stepped ending e6 2 load_two None (ready ending e6 2 refl refl refl)
+                      ((0, refl), λ h. few 0 (omega arith), tt, few 6 (omega arith), refl, refl, refl, (refl, refl, tt), (alloc 1, refl, refl), goes_on (M ending) limits (state ending e7 2) (λ why h. cc) (other_count 1 (omega arith))),
+                  refl,
                 ),
               ),
             ),
           ),
-        );
-    least =
+        ),
+      ),
+    );
+    least = (
+      can ending e7 2 (ready ending e7 2 refl refl refl),
+      two_others (λ u. CanGoOn (M ending) objects e7 u → ⊥) (stays ending e7 0 refl refl) (gone ending e7 1 returned refl refl),
+      (
+        e8,
+        ended ending e7 2 returned (ready ending e7 2 refl refl refl) ((1, (refl, λ h. few 1 (omega arith), refl)), (refl, λ h. not_begun h), tt),
         (
-          can ending e7 2 (ready ending e7 2 refl refl refl),
-          two_others (λ u. CanGoOn (M ending) objects e7 u → ⊥) (stays ending e7 0 refl refl) (gone ending e7 1 returned refl refl),
+          can ending e8 0 (ready ending e8 0 refl refl refl),
+          (λ u less c. no_other u less),
           (
-            e8,
-            ended ending e7 2 returned (ready ending e7 2 refl refl refl) ((1, (refl, λ h. few 1 (omega arith), refl)), (refl, λ h. not_begun h), tt),
-            (
-              can ending e8 0 (ready ending e8 0 refl refl refl),
-              (λ u less c. no_other u less),
-              (
-                e9,
-                stepped ending e8 0 join_two (Some returned) (ready ending e8 0 refl refl refl)
-                    ((0, refl), λ h. few 4 (omega arith), (0, None, refl), few 7 (omega arith), refl, refl, refl, (refl, refl), (0, None, refl, refl), (tt, (refl, λ h. not_begun h))),
-                refl,
-              ),
-            ),
+            e9,
+            stepped ending e8 0 join_two (Some returned) (ready ending e8 0 refl refl refl)
+                ((0, refl), λ h. few 4 (omega arith), (0, None, refl), few 7 (omega arith), refl, refl, refl, (refl, refl), (0, None, refl, refl), (tt, (refl, λ h. not_begun h))),
+            refl,
           ),
-        );
+        ),
+      ),
+    );
     over = all_over;
   };
   merge = refl;

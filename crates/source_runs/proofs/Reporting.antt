@@ -1,5 +1,5 @@
 -- Of a right record a report can be made.
-use Rattle.std.proofs.Common.{◌≡◌, ℕ, zero, suc, ◌+◌, ◌<◌, ◌≤◌, ◌⊎◌, Bool, true, false, List, [], ◌∷◌, ◌++◌, refl, sym, ◌∙◌, ap, subst, inl, inr, arith, map, nat_eq}
+use Rattle.std.proofs.Common.{◌≡◌, ℕ, ◌<◌, ◌≤◌, ◌⊎◌, true, false, List, [], ◌∷◌, refl, sym, ◌∙◌, ap, subst, inl, inr, arith, map, nat_eq}
 use Rattle.std.specs.Prelude.{All, IsTrue, IsSome, ◌==◌, if◌then◌else◌}
 use Rattle.std.specs.List.{flat_map, IsDistinct, AllByRecursion}
 use Rattle.std.proofs.lemmas.Bool.Decides.{eqb_tells}
@@ -8,7 +8,6 @@ use Rattle.std.proofs.lemmas.List.Sorted.{IsPermutation-sym, IsPermutation-map}
 use Rattle.std.proofs.lemmas.Map.Keys.{IsDistinct-IsPermutation}
 use Rattle.std.proofs.lemmas.Bool.Decides.{nat_tests}
 use Rattle.bsan_ids.specs.declared.numbers.AllocNo.{AllocNo}
-use Rattle.bsan_ids.specs.declared.numbers.Limits.{Limits}
 use Rattle.std.specs.declared.option.Option.{Option}
 use Rattle.history.specs.Histories.{IsHistory, fits}
 use Rattle.history.specs.Merge.{by_stamp}
@@ -18,16 +17,13 @@ use Rattle.history.specs.declared.entry.Entry.{Entry}
 use Rattle.history.specs.declared.entry.Reply.{Reply}
 use Rattle.history.specs.declared.entry.Request.{Request}
 use Rattle.history.specs.declared.entry.Request.TheVariants as request
-use Rattle.report.specs.Report.{IsReportable}
 use Rattle.report.specs.Violation.{IsDescribable, has_deed}
 use Rattle.run_record.specs.Merge.{stamp_of, thread_entries, violates, is_violation}
 use Rattle.run_record.specs.declared.log.AllocLog.{AllocLog}
-use Rattle.run_record.specs.declared.log.ThreadLog.{ThreadLog}
-use Rattle.run_record.specs.declared.record.RunRecord.{RunRecord}
 use Rattle.runs.specs.Interleaving.{Legal}
 use Rattle.runs.specs.Merge.{merged, entries_of}
 use Rattle.runs.specs.Objects.{objects}
-use Rattle.runs.specs.Parts.{of_alloc, names}
+use Rattle.runs.specs.Parts.{names}
 use Rattle.runs.specs.Right.{AllocsRiseFrom, history_of}
 use Rattle.runs.specs.Stamps.{Has, RisesFrom}
 use Rattle.runs.proofs.Differing.{rises_differ, both_differ, in_part, has_either, one_stamp, named_one}
@@ -36,7 +32,6 @@ use Rattle.runs.proofs.MergesAgree.{agrees}
 use Rattle.runs.proofs.Merges.{in_own_thread}
 use Rattle.runs.proofs.Tying.{in_merge}
 use Rattle.source_runs.specs.Reportable.{RightRecordsAreReportable}
-use Rattle.source_runs.specs.Setting.{IsRightFor}
 use Rattle.source_runs.proofs.LegalHistories.{histories_are_legal}
 use Rattle.source_runs.proofs.OwnLimits.{log_with}
 use Rattle.source_sem.specs.Starting.{setting_of}

@@ -714,8 +714,21 @@ whole_runs others first same = record {
         one_is h = cc
 
 whole_stamps : (h : ℕ → ℕ) → sum_by h (1 ∷ 2 ∷ 3 ∷ 4 ∷ 6 ∷ 5 ∷ []) ≡ sum_by h (1 ∷ 2 ∷ 3 ∷ 4 ∷ 5 ∷ 6 ∷ [])
-whole_stamps h = omega (arith, sum_by-cons h 1 (2 ∷ 3 ∷ 4 ∷ 6 ∷ 5 ∷ []), sum_by-cons h 2 (3 ∷ 4 ∷ 6 ∷ 5 ∷ []), sum_by-cons h 3 (4 ∷ 6 ∷ 5 ∷ []), sum_by-cons h 4 (6 ∷ 5 ∷ []), sum_by-cons h 6 (5 ∷ []), sum_by-cons h 5 [],
-    sum_by-cons h 1 (2 ∷ 3 ∷ 4 ∷ 5 ∷ 6 ∷ []), sum_by-cons h 2 (3 ∷ 4 ∷ 5 ∷ 6 ∷ []), sum_by-cons h 3 (4 ∷ 5 ∷ 6 ∷ []), sum_by-cons h 4 (5 ∷ 6 ∷ []), sum_by-cons h 5 (6 ∷ []), sum_by-cons h 6 [])
+whole_stamps h = omega (
+  arith,
+  sum_by-cons h 1 (2 ∷ 3 ∷ 4 ∷ 6 ∷ 5 ∷ []),
+  sum_by-cons h 2 (3 ∷ 4 ∷ 6 ∷ 5 ∷ []),
+  sum_by-cons h 3 (4 ∷ 6 ∷ 5 ∷ []),
+  sum_by-cons h 4 (6 ∷ 5 ∷ []),
+  sum_by-cons h 6 (5 ∷ []),
+  sum_by-cons h 5 [],
+  sum_by-cons h 1 (2 ∷ 3 ∷ 4 ∷ 5 ∷ 6 ∷ []),
+  sum_by-cons h 2 (3 ∷ 4 ∷ 5 ∷ 6 ∷ []),
+  sum_by-cons h 3 (4 ∷ 5 ∷ 6 ∷ []),
+  sum_by-cons h 4 (5 ∷ 6 ∷ []),
+  sum_by-cons h 5 (6 ∷ []),
+  sum_by-cons h 6 [],
+)
 
 whole_histories : (a : ℕ) → 0 < a → a ≤ limits.allocs → IsClosedHistory objects (thread_logs right) a (history_of (alloc_logs right) a)
 whole_histories a low high =

@@ -10,7 +10,7 @@ use Rattle.runs.specs.Interleaving.{Allowed}
 use Rattle.runs.specs.Objects.{objects}
 use Rattle.runs.specs.PlainObjects.{plain_objects}
 use Rattle.runs.specs.Right.{IsRight, ErasesToPlainRun}
-use Rattle.source_sem.specs.Source.{Setting, source, plain_setting}
+use Rattle.source_sem.specs.Source.{source, plain_setting}
 use Rattle.source_sem.specs.Starting.{setting_of, main_of, main_start}
 
 -- a word that a host function may answer; what isn't in the table answers nothing

@@ -34,7 +34,7 @@ use Rattle.source_sem.proofs.Mirroring.{fr}
 use Rattle.source_sem.specs.Plain.{IsWaiting}
 use Rattle.source_sem.specs.Joining.{StartsNoMain, Enters, IsLost, CallersStand, FramesStand, ThreadStands, JoinLaw, dest_defines, IsSpawnOp, Has, Holds, FunctionJoins, JoinsAccepted, Site, Placed, Waits, Retagged, DoingStands}
 use Rattle.source_sem.proofs.Joins.{join_asks, holds_more}
-use Rattle.runs.specs.Parts.{Answers, child_of, spawned_of, spawned_by}
+use Rattle.runs.specs.Parts.{Answers, spawned_of, spawned_by}
 use Rattle.runs.specs.Erasure.{trap_of}
 use Rattle.perm_table.specs.declared.Guard.TheVariants.{Free}
 use Rattle.ir_ast.specs.declared.types.Place.TheVariants.{Stack, Heap}

@@ -103,15 +103,13 @@ bind_other : (ps : List Param) (vs : List Arg) (env : Env) (r : List ℕ) → pa
 bind_other [] vs env r h = (refl, refl)
 bind_other (p ∷ ps) [] env r h =
     let both = or_false (bytes_eq p.reg.name r) (params_define ps r) h in
-    let rest = bind_other ps [] (with_value p.reg.name blank env) r both.1 in
-    (
+    let rest = bind_other ps [] (with_value p.reg.name blank env) r both.1 in (
       rest.0 ∙ is_bound-with_value env p.reg.name blank r ∙ skip_bound (bytes_eq p.reg.name r) (is_bound env r) both.0,
       rest.1 ∙ value_in-with_value env p.reg.name blank r ∙ skip_value (bytes_eq p.reg.name r) blank (value_in env r) both.0,
     )
 bind_other (p ∷ ps) (v ∷ vs) env r h =
     let both = or_false (bytes_eq p.reg.name r) (params_define ps r) h in
-    let rest = bind_other ps vs (with_value p.reg.name (arg_at p.ty v) env) r both.1 in
-    (
+    let rest = bind_other ps vs (with_value p.reg.name (arg_at p.ty v) env) r both.1 in (
       rest.0 ∙ is_bound-with_value env p.reg.name (arg_at p.ty v) r ∙ skip_bound (bytes_eq p.reg.name r) (is_bound env r) both.0,
       rest.1 ∙ value_in-with_value env p.reg.name (arg_at p.ty v) r ∙ skip_value (bytes_eq p.reg.name r) (arg_at p.ty v) (value_in env r) both.0,
     )

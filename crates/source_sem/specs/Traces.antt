@@ -25,7 +25,6 @@ use Rattle.ir_ast.specs.declared.program.Val.TheVariants.{Reg, Num}
 use Rattle.history.specs.declared.ask.Ask.{Ask}
 use Rattle.history.specs.declared.ask.Ask.TheVariants as ask
 use Rattle.history.specs.declared.ask.MachineEnd.TheVariants as end
-use Rattle.history.specs.declared.entry.Plain.{Plain}
 use Rattle.history.specs.declared.entry.Plain.TheVariants as plain
 use Rattle.history.specs.declared.entry.Reply.{Reply}
 use Rattle.history.specs.declared.entry.Request.TheVariants as request

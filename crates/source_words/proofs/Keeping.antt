@@ -1,5 +1,5 @@
 -- A thread keeps its words, through local turns and through replies that fit.
-use Rattle.std.proofs.Common.{◌≡◌, ℕ, zero, suc, ◌*◌, ◌%◌, ◌^◌, ◌<◌, inl, inr, List, [], ◌∷◌, length, Option, Some, None, Bool, true, false, refl, sym, ap, ◌∙◌, subst, arith, if◌then◌else◌}
+use Rattle.std.proofs.Common.{◌≡◌, ℕ, zero, suc, ◌*◌, ◌%◌, ◌^◌, ◌<◌, List, [], ◌∷◌, length, Option, Some, None, Bool, true, false, refl, sym, ap, ◌∙◌, subst, arith, if◌then◌else◌}
 use Rattle.std.specs.Prelude.{slice_get}
 use Rattle.std.proofs.lemmas.Bool.{true≢false}
 use Rattle.bsan_ids.specs.declared.numbers.Prov.{Prov}
@@ -29,7 +29,6 @@ use Rattle.ir_ast.specs.declared.program.Program.{Program}
 use Rattle.ir_ast.specs.declared.types.Attr.{Attr}
 use Rattle.ir_ast.specs.declared.types.Ty.{Ty}
 use Rattle.ir_ast.specs.declared.types.Ty.TheVariants.{Int, Ptr}
-use Rattle.ir_ast.specs.declared.types.Width.TheVariants.{W64}
 use Rattle.ir_rules.specs.Occurrences.{Holds, or_none, op_gives}
 use Rattle.ir_rules.specs.Occurrences.Holds.{value, handle}
 use Rattle.ir_rules.specs.Rules.{ret_type}

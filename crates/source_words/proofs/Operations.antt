@@ -26,7 +26,7 @@ use Rattle.source_words.specs.Typing.{ArgTyped, OpTyped}
 use Rattle.source_sem.specs.Starting.{ArgsFit}
 use Rattle.source_words.specs.Invariant.{EnvFits, JoinsTyped}
 use Rattle.source_words.proofs.Words.{WorkedFits, worked_fits, wrapped, cast_fits}
-use Rattle.source_words.proofs.Registers.{fits_plain, fits_ptr, fits_at, fits_blank, MayGive, operand_fits, arg_fits, args_fit}
+use Rattle.source_words.proofs.Registers.{fits_plain, fits_ptr, fits_at, fits_blank, MayGive, arg_fits, args_fit}
 
 mod_same : (c : ℕ) → c < 2 ^ 32 → c % 2 ^ 32 ≡ c
 mod_same c less = omega (arith, less)
