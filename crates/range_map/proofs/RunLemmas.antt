@@ -1,5 +1,5 @@
 -- Lemmas on runs and the bytes that they stand for.
-use Rattle.std.proofs.Common.{◌≡◌, ℕ, zero, suc, ◌+◌, ◌<◌, ◌≤◌, List, [], ◌∷◌, length, get_or, set, map, replicate, Bool, true, false, cond, ◌||◌, ◌⊎◌, refl, sym, ap, subst, ◌∙◌, inl, inr, arith, nat_lt, nat_le, rules, Some, All}
+use Rattle.std.proofs.Common.{◌≡◌, ℕ, zero, suc, ◌+◌, ◌<◌, ◌≤◌, List, [], ◌∷◌, length, get_or, set, map, replicate, Bool, true, false, cond, ◌⊎◌, refl, sym, ap, subst, ◌∙◌, inl, inr, arith, nat_lt, nat_le, rules, Some, All}
 use Rattle.std.proofs.lemmas.Bool.Decides.{nat_tests}
 use Rattle.std.proofs.lemmas.List.{same_lists, length-replicate, get_or-replicate, places}
 use Rattle.std.proofs.lemmas.List.FromFn.{length-map-range_with_len, get_or-map-range_with_len}
@@ -9,7 +9,7 @@ use Rattle.std.proofs.lemmas.List.Elements.{All-cons, All-nil}
 use Rattle.std.specs.List.Sorted.{IsNonDecreasingBy, IsPartitionPoint, IsStrictlyIncreasing}
 use Rattle.range_map.specs.declared.Run.{Run}
 use Rattle.range_map.specs.Runs.{value_at, IsRisingTo, runs_until, bytes_of, starts_of, run_at}
-use Rattle.range_map.specs.Ranges.{with_start, with_end, has_start, next_start, overwrite, IsRanges}
+use Rattle.range_map.specs.Ranges.{stays, with_start, with_end, has_start, next_start, overwrite, IsRanges}
 
 pub length-bytes_of : {T : Type 0} (len : ℕ) (first : T) (later : List (Run T)) → length (bytes_of len first later) ≡ len
 unfolding bytes_of
@@ -279,10 +279,6 @@ split-there len at first run rs h e le =
     let before : at ≤ (run_at at head rs).start = omega (arith, ap (λ (r : Run _). r.start) e, le) in
     grind (arith, nat_tests, starts-there len at head rs h before)
 
--- whether a run that begins at `s` stays when the bytes from `from` to before `end` are written
-abbrev pub stays : ℕ → ℕ → ℕ → Bool
-stays from end s = nat_le s from || nat_le end s
-
 pub rising-weaken : {T : Type 0} (len low lower : ℕ) (rs : List (Run T)) → lower ≤ low → IsRisingTo len low rs → IsRisingTo len lower rs
 rising-weaken len low lower [] le h = omega arith
 rising-weaken len low lower (r ∷ rs) le h = (omega (arith, h.0), h.1)
@@ -328,6 +324,30 @@ value_at-low len low b first (r ∷ rs) h le = grind (arith, nat_tests, h.0)
 pub filter-all_stay : {T : Type 0} (len low from end : ℕ) (rs : List (Run T)) → IsRisingTo len low rs → end ≤ low → filter (λ r. stays from end r.start) rs ≡ rs
 filter-all_stay len low from end [] h le = refl
 filter-all_stay len low from end (r ∷ rs) h le = grind (arith, nat_tests, h.0, filter-all_stay len r.start from end rs h.1)
+
+-- where the first run that begins after `from` begins at `end` or later, all stay
+pub none_between-by : {T : Type 0} (from end : ℕ) (rs : List (Run T)) → IsNonDecreasingBy (λ (r : Run T). r.start) rs → ((k : ℕ) (d : Run T) → k < length rs → end ≤ (get_or rs k d).start) → filter (λ r. stays from end r.start) rs ≡ rs
+none_between-by from end [] up far = refl
+none_between-by from end (r ∷ rs) up far =
+    grind (arith, nat_tests, far 0 r (omega arith), none_between-by from end rs (λ i j d le lt. up (suc i) (suc j) d (omega arith) (omega arith)) (λ k d lt. far (suc k) d (omega arith)))
+
+pub none_between : {T : Type 0} (from end : ℕ) (rs : List (Run T)) → IsNonDecreasingBy (λ (r : Run T). r.start) rs → ((d : Run T) → runs_until from rs < length rs → end ≤ (get_or rs (runs_until from rs) d).start) → filter (λ r. stays from end r.start) rs ≡ rs
+none_between from end [] up far = refl
+none_between {T} from end (r ∷ rs) up far =
+    by_first (nat_lt from r.start) refl far (none_between from end rs (λ i j d le lt. up (suc i) (suc j) d (omega arith) (omega arith)))
+  where
+    all_far : end ≤ r.start → (k : ℕ) (d : Run T) → k < length (r ∷ rs) → end ≤ (get_or (r ∷ rs) k d).start
+    all_far h zero d lt = h
+    all_far h (suc k) d lt =
+        let le : r.start ≤ (get_or rs k d).start = up 0 (suc k) d (omega arith) (omega arith) in
+        omega (arith, h, le)
+
+    by_first : (b : Bool) → nat_lt from r.start ≡ b
+        → ((d : Run T) → cond b 0 (suc (runs_until from rs)) < length (r ∷ rs) → end ≤ (get_or (r ∷ rs) (cond b 0 (suc (runs_until from rs))) d).start)
+        → (((d : Run T) → runs_until from rs < length rs → end ≤ (get_or rs (runs_until from rs) d).start) → filter (λ (x : Run T). stays from end x.start) rs ≡ rs)
+        → filter (λ (x : Run T). stays from end x.start) (r ∷ rs) ≡ r ∷ rs
+    by_first true is far later = none_between-by from end (r ∷ rs) up (all_far (far r (omega arith)))
+    by_first false is far later = grind (arith, nat_tests, is, later (λ d lt. far d (omega arith)))
 
 -- the bytes before and after the written ones
 pub value_at-filter_below : {T : Type 0} (len low from end b : ℕ) (first : T) (rs : List (Run T)) → IsRisingTo len low rs → b ≤ from → value_at first (filter (λ r. stays from end r.start) rs) b ≡ value_at first rs b

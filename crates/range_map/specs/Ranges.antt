@@ -37,10 +37,13 @@ next_start len at (s ∷ ss) = if nat_lt at s then s else next_start len at ss
 abbrev pub overwrite : {T : Type 0} → ℕ → ℕ → T → List T → List T
 overwrite from end value xs = take from xs ++ replicate (end - from) value ++ drop end xs
 
+-- whether a run that begins at `s` stays when the bytes from `from` to before `end` are written
+abbrev pub stays : ℕ → ℕ → ℕ → Bool
+stays from end s = nat_le s from || nat_le end s
+
 -- the run starts after a write from `from` to before `end`
 abbrev pub starts_after_set : ℕ → ℕ → ℕ → List ℕ → List ℕ
-starts_after_set len from end starts =
-    filter (λ s. nat_le s from || nat_le end s) (with_start from (with_end len end starts))
+starts_after_set len from end starts = filter (stays from end) (with_start from (with_end len end starts))
 
 -- the places from `at` on whose value is not that of the place before
 abbrev pub boundaries_from : {T : Type 0} → (T → T → Bool) → ℕ → T → List T → List ℕ

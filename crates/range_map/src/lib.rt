@@ -1,8 +1,9 @@
 //! A list with one value per byte, kept as runs of bytes that have one value.
 #![tactic(auto)]
 
-ghost use Rattle.std.specs.Prelude.{◌≡◌, ℕ, ◌+◌, ◌-◌, ◌*◌, ◌<◌, ◌≤◌, ◌↔◌, List, [], ◌∷◌, ◌++◌, length, IfOk, OnOk, OnErr, IsTrue, slice_get, Bool, true, take, replicate, Some};
-ghost use Rattle.range_map.specs.Ranges.{with_start, with_end, has_start, next_start, overwrite, starts_after_set, boundaries, IsRanges};
+ghost use Rattle.std.specs.Prelude.{◌≡◌, ℕ, ◌+◌, ◌-◌, ◌*◌, ◌<◌, ◌≤◌, ◌↔◌, List, [], ◌∷◌, ◌++◌, length, IfOk, OnOk, OnErr, IsTrue, slice_get, Bool, true, take, replicate, Some, vec_len, vec_capacity};
+ghost use Rattle.std.specs.List.{filter};
+ghost use Rattle.range_map.specs.Ranges.{stays, with_start, with_end, has_start, next_start, overwrite, starts_after_set, boundaries, IsRanges};
 ghost use Rattle.range_map.specs.Runs.{runs_until, run_at, compacted, IsRising};
 
 use bsan_ids::{NoMemory, Span};
@@ -58,6 +59,23 @@ fn run_with<T: Copy>(first: T, later: &[Run<T>], at: u32) -> Run<T>
             start: 0,
             value: first,
         },
+    }
+}
+
+// Drops the runs that begin between two places. It goes through them only where there is one.
+fn drop_between<T: Copy>(later: &mut Vec<Run<T>>, from: u32, end: u32)
+    requires { IsRising later.old.items }
+    ensures kept { later.new.items ≡ filter (λ run. stays from end run.start) later.old.items }
+    ensures len { vec_len later.new ≤ vec_len later.old }
+    ensures capacity { vec_capacity later.new ≡ vec_capacity later.old }
+{
+    match later.get(runs_up_to(later, from)) {
+        None => (),
+        Some(run) => {
+            if run.start < end {
+                later.retain(|run| run.start <= from || end <= run.start);
+            }
+        }
     }
 }
 
@@ -203,8 +221,7 @@ impl<T: Copy + Eq> RangeMap<T> {
         let end = span.start + span.len;
         self.end_at(end);
         self.split_at(span.start);
-        self.later
-            .retain(|run| run.start <= span.start || end <= run.start);
+        drop_between(&mut self.later, span.start, end);
         self.put(span.start, value);
     }
 
