@@ -8,20 +8,12 @@ use ir_ast::{Ty, Width};
 pub fn width_bytes(width: Width) -> u8
     ensures { result ≡ words.width_bytes width }
 {
-    match width {
-        Width::W8 => 1,
-        Width::W16 => 2,
-        Width::W32 => 4,
-        Width::W64 => 8,
-    }
+    width.bytes() as u8
 }
 
 /// How many bytes a value of this type has.
 pub fn ty_bytes(ty: Ty) -> u8
     ensures { result ≡ words.ty_bytes ty }
 {
-    match ty {
-        Ty::Int(width) => width_bytes(width),
-        Ty::Ptr => 8,
-    }
+    ty.bytes() as u8
 }
