@@ -10,8 +10,8 @@ use Rattle.perm_table.specs.declared.Kind.TheVariants.{Read, Write}
 use Rattle.perm_table.specs.declared.RetagKind.{RetagKind}
 use Rattle.perm_table.specs.declared.Guard.{Guard}
 use Rattle.eager_tree.specs.declared.node.Node.{Node}
-use Rattle.perm_table.specs.declared.Violation.{Violation}
-use Rattle.perm_table.specs.declared.Violation.TheVariants.{Freed as WasFreed, OutOfRange}
+use Rattle.eager_tree.specs.declared.violation.Violation.{Violation}
+use Rattle.eager_tree.specs.declared.violation.Violation.TheVariants.{Freed as WasFreed, OutOfRange}
 use Rattle.eager_tree.specs.Tree.{Tree, Links, links, is_node}
 use Rattle.eager_tree.specs.Visit.{visit, visit_unless, first_denial, next_nodes, next_by}
 use Rattle.eager_tree.specs.Steps.{access, retag, end_protector, free_all, with_node, new_node, unguarded, freed_unless, freed_guard, strong_free, implicit_kinds, is_no_descendant, on_span}

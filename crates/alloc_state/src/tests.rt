@@ -7,7 +7,8 @@ use super::AllocState;
 use bsan_ids::{AllocNo, Frag, NoMemory, Prov, Stamp, Tag, ThreadNo};
 use history::{Entry, Piece, Plain, Reply, Request, Trap, Verdict};
 use ir_ast::{Place, Ty, Width};
-use perm_table::{Guard, Perm, RetagKind, Violation};
+use eager_tree::Violation;
+use perm_table::{Guard, Perm, RetagKind};
 use std::alloc::Global;
 use std::test::Fail;
 

@@ -8,12 +8,12 @@ use Rattle.ir_ast.specs.declared.program.Program.{Program}
 use Rattle.ir_reader.specs.Readings.{IsProgramOf, Refuses, most_bytes}
 use Rattle.ir_reader.specs.declared.fault.ReadFault.{ReadFault}
 use Rattle.ir_reader.proofs.Verdicts.{one_program, not_both}
-use Rattle.ir_rules.specs.declared.Rule.{Rule}
+use Rattle.ir_rules.specs.declared.rule.Rule.{Rule}
 use Rattle.ir_rules.specs.Least.{fault}
 use Rattle.ir_rules.specs.Rules.{IsAccepted, IsFirstBroken}
 use Rattle.target_code.specs.Texts.{target_text}
 use Rattle.target_code.specs.declared.line.Target.{Target}
-use Rattle.run_record.specs.declared.record.RunRecord.{RunRecord}
+use Rattle.history.specs.declared.record.RunRecord.{RunRecord}
 use Rattle.bsan.specs.Words.{Text, file_in, IsCheck, IsInstrument, IsSolo}
 use Rattle.bsan.specs.Seen.{FilesSeen, SinkSeen, Failed, Puts}
 use Rattle.bsan.specs.Seen.Puts.{whole, failed, no_memory}

@@ -12,8 +12,8 @@ use Rattle.ir_rules.specs.Rules.{IsFirstBroken}
 use Rattle.ir_verify.specs.Refusals.{IsRefusal as IsRefusalOf}
 use Rattle.ir_verify.specs.declared.refusal.VerifyFault.{VerifyFault}
 use Rattle.ir_verify.specs.declared.refusal.VerifyFault.TheVariants as verify_fault
-use Rattle.run_record.specs.Empty.{empty_record}
-use Rattle.run_record.specs.declared.record.RunRecord.{RunRecord}
+use Rattle.history.specs.Records.{empty_record}
+use Rattle.history.specs.declared.record.RunRecord.{RunRecord}
 use Rattle.bsan.specs.Words.{Text, file_in}
 use Rattle.bsan.specs.Seen.{FilesSeen, WasRead}
 use Rattle.bsan.specs.Answer.{OfText, OfProgram, FindsIn, HasCause, IsBrokenRule}

@@ -1,6 +1,6 @@
 -- Of what a run left a report can be made.
 use Rattle.std.proofs.Common.{◌≡◌, List}
-use Rattle.run_record.specs.declared.record.RunRecord.{RunRecord}
+use Rattle.history.specs.declared.record.RunRecord.{RunRecord}
 use Rattle.report.specs.Report.{IsReportable}
 use Rattle.bsan.specs.Words.{Text}
 use Rattle.bsan.specs.Seen.{FilesSeen}

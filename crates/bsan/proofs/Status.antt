@@ -2,8 +2,8 @@
 use Rattle.std.proofs.Common.{◌≡◌, ◌<◌, ◌⊎◌, ℕ, Bool, true, false, List, if◌then◌else◌, refl, sym, ◌∙◌, arith, inl, inr}
 use Rattle.target_code.specs.Texts.{target_text}
 use Rattle.target_code.specs.declared.line.Target.{Target}
-use Rattle.run_record.specs.declared.record.RunRecord.{RunRecord}
-use Rattle.run_record.specs.Merge.{has_violation}
+use Rattle.history.specs.declared.record.RunRecord.{RunRecord}
+use Rattle.history.specs.Records.{has_violation}
 use Rattle.report.specs.Report.{status_of, any_end, is_no_memory, is_limit, is_trap}
 use Rattle.std.specs.List.{list_any}
 use Rattle.bsan.specs.Words.{Text}

@@ -12,8 +12,8 @@ use Rattle.ir_verify.specs.declared.refusal.VerifyFault.{VerifyFault}
 use Rattle.ir_verify.specs.declared.refusal.VerifyFault.TheVariants.{Refused, NoMemory}
 use Rattle.instrument.specs.Translation.{translation}
 use Rattle.target_code.specs.Texts.{target_text}
-use Rattle.run_record.specs.Empty.{empty_record}
-use Rattle.run_record.specs.declared.record.RunRecord.{RunRecord}
+use Rattle.history.specs.Records.{empty_record}
+use Rattle.history.specs.declared.record.RunRecord.{RunRecord}
 use Rattle.report.specs.Report.{text_of, status_of}
 use Rattle.small_run.specs.Small.{IsSmall}
 use Rattle.bsan.specs.Words.{Text, file_in, IsCheck, IsInstrument, IsSolo}

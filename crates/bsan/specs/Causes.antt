@@ -9,15 +9,15 @@ use Rattle.ir_ast.specs.Programs.{function_instructions}
 use Rattle.ir_ast.specs.declared.program.Program.{Program}
 use Rattle.ir_reader.specs.Readings.{IsProgramOf, Refuses, most_bytes}
 use Rattle.ir_reader.specs.declared.fault.ReadFault.{ReadFault}
-use Rattle.ir_rules.specs.declared.Rule.{Rule}
+use Rattle.ir_rules.specs.declared.rule.Rule.{Rule}
 use Rattle.ir_rules.specs.Least.{fault}
 use Rattle.ir_rules.specs.Rules.{Broken, IsAccepted, IsFirstBroken}
 use Rattle.instrument.specs.Translation.{translation}
 use Rattle.target_code.specs.Texts.{target_text}
 use Rattle.target_code.specs.declared.line.Target.{Target}
-use Rattle.run_record.specs.Empty.{empty_record}
-use Rattle.run_record.specs.declared.record.RunRecord.{RunRecord}
-use Rattle.run_record.specs.Merge.{has_violation}
+use Rattle.history.specs.Records.{empty_record}
+use Rattle.history.specs.declared.record.RunRecord.{RunRecord}
+use Rattle.history.specs.Records.{has_violation}
 use Rattle.report.specs.Report.{text_of, status_of}
 use Rattle.small_run.specs.Small.{IsSmall}
 use Rattle.bsan.specs.Words.{Text, file_in, IsSolo}

@@ -3,7 +3,7 @@ use Rattle.std.specs.Prelude.{ℕ, List, [], ◌∷◌, ◌++◌, codes}
 use Rattle.std.specs.Fmt.{decimal}
 use Rattle.ir_reader.specs.FaultTexts.{fault_text}
 use Rattle.ir_reader.specs.declared.fault.ReadFault.{ReadFault}
-use Rattle.ir_rules.specs.declared.Rule.{Rule}
+use Rattle.ir_rules.specs.declared.rule.Rule.{Rule}
 use Rattle.ir_rules.specs.Least.{name_of}
 
 -- not read: FAULT at PLACE

@@ -2,7 +2,7 @@
 use Rattle.std.specs.Prelude.{[]}
 use Rattle.ir_ast.specs.declared.hosts.HostTable.{HostTable}
 use Rattle.ir_ast.specs.declared.program.Program.{Program}
-use Rattle.run_record.specs.declared.record.RunRecord.{RunRecord}
+use Rattle.history.specs.declared.record.RunRecord.{RunRecord}
 use Rattle.report.specs.Report.{IsReportable}
 use Rattle.small_run.specs.Right.{IsRightFor}
 

@@ -4,7 +4,7 @@ ghost use Rattle.command_words.specs.Meaning.{job_meant};
 ghost use Rattle.ir_ast.specs.Programs.{IsProgram};
 ghost use Rattle.ir_reader.specs.Readings.{most_bytes};
 ghost use Rattle.ir_rules.specs.Rules.{IsAccepted};
-ghost use Rattle.run_record.specs.Empty.{empty_record};
+ghost use Rattle.history.specs.Records.{empty_record};
 ghost use Rattle.bsan.specs.Answer.{FindsIn, HasCause, Answers, IsBrokenRule};
 ghost use Rattle.bsan.specs.Runs.{no_hosts};
 ghost use Rattle.bsan.specs.Seen.{seen_files, seen_sink, Failed, WasTooLong, WasRead, Puts};

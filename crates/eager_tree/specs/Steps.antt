@@ -13,8 +13,8 @@ use Rattle.perm_table.specs.declared.RetagKind.{RetagKind}
 use Rattle.perm_table.specs.Table.{starting}
 use Rattle.eager_tree.specs.declared.node.Cell.{Cell}
 use Rattle.eager_tree.specs.declared.node.Node.{Node}
-use Rattle.perm_table.specs.declared.Violation.{Violation}
-use Rattle.perm_table.specs.declared.Violation.TheVariants.{StrongFree}
+use Rattle.eager_tree.specs.declared.violation.Violation.{Violation}
+use Rattle.eager_tree.specs.declared.violation.Violation.TheVariants.{StrongFree}
 use Rattle.eager_tree.specs.Tree.{Tree, Links, links, is_on_path}
 use Rattle.eager_tree.specs.Visit.{visit, first_in, first_below}
 

@@ -10,8 +10,8 @@ use Rattle.perm_table.specs.declared.Outcome.TheVariants.{Next, Denied as IsDeni
 use Rattle.perm_table.specs.Table.{outcome}
 use Rattle.eager_tree.specs.declared.node.Cell.{Cell}
 use Rattle.eager_tree.specs.declared.node.Node.{Node}
-use Rattle.perm_table.specs.declared.Violation.{Violation}
-use Rattle.perm_table.specs.declared.Violation.TheVariants.{Denied}
+use Rattle.eager_tree.specs.declared.violation.Violation.{Violation}
+use Rattle.eager_tree.specs.declared.violation.Violation.TheVariants.{Denied}
 use Rattle.eager_tree.specs.Tree.{Tree, Links, links, is_on_path}
 
 -- the first answer, along a list or counting up from 0

@@ -10,7 +10,9 @@ mod sweep;
 #[cfg(test)]
 mod tests;
 mod tree;
+mod violation;
 
 pub use laws::path_by_parents;
 pub use node::{Cell, Node};
 pub use tree::EagerTree;
+pub use violation::Violation;

@@ -2,7 +2,8 @@
 ghost use Rattle.std.specs.Prelude.{◌≡◌, Some, IfOk};
 
 use bsan_ids::{ListOf, NoMemory, Tag};
-use perm_table::{Guard, Kind, Outcome, Perm, Violation, step};
+use crate::violation::Violation;
+use perm_table::{Guard, Kind, Outcome, Perm, step};
 
 /// What a node may do with one byte, and whether an access was local to it there.
 #[derive(Clone, Copy)]

@@ -7,7 +7,8 @@ ghost use Rattle.eager_tree.specs.Sweeps.{kinds_of, reaches_of};
 
 use crate::node::{Cell, Node};
 use bsan_ids::{ListOf, NoMemory, Span, Tag};
-use perm_table::{Kind, Perm, Violation};
+use crate::violation::Violation;
+use perm_table::{Kind, Perm};
 use std::alloc::Global;
 
 /// What a visit does at each byte, and which nodes it reaches.

@@ -3,7 +3,8 @@ ghost use Rattle.eager_tree.specs.Tree.{is_node};
 
 use super::*;
 use bsan_ids::{Span, Tag};
-use perm_table::{Guard, Kind, Perm, RetagKind, Violation};
+use crate::violation::Violation;
+use perm_table::{Guard, Kind, Perm, RetagKind};
 use std::alloc::Global;
 use std::process::Abort;
 use std::test::Fail;

@@ -8,7 +8,8 @@ use crate::sweep::{
     Sweep, are_older, cells_of, copy_of, fill, free_guard, holds_tag, strongly_held,
 };
 use bsan_ids::{ListOf, NoMemory, Span, Tag};
-use perm_table::{Guard, Kind, Perm, RetagKind, Violation, start};
+use crate::violation::Violation;
+use perm_table::{Guard, Kind, Perm, RetagKind, start};
 use std::alloc::Global;
 use std::marker::Model;
 

@@ -3,3 +3,4 @@ mod Indexed
 pub mod Order
 mod Sorted
 pub mod Distinct
+pub mod RecordStamps

@@ -7,7 +7,7 @@ use Rattle.bsan_ids.specs.declared.numbers.Frag.{Frag}
 use Rattle.perm_table.specs.declared.Perm.TheVariants.{Reserved, Conflicted, Unique, Frozen, Disabled}
 use Rattle.perm_table.specs.declared.RetagKind.TheVariants.{Mut, Cell, Shr, Boxed}
 use Rattle.perm_table.specs.declared.Guard.TheVariants.{Free as Unguarded, Weak, Strong}
-use Rattle.perm_table.specs.declared.Violation.TheVariants.{Denied, StrongFree, Stranger, OutOfRange}
+use Rattle.eager_tree.specs.declared.violation.Violation.TheVariants.{Denied, StrongFree, Stranger, OutOfRange}
 use Rattle.ir_ast.specs.declared.types.Place.TheVariants.{Stack, Heap}
 use Rattle.ir_ast.specs.declared.types.Width.TheVariants.{W8, W32, W64}
 use Rattle.ir_ast.specs.declared.types.Ty.TheVariants.{Int, Ptr}

@@ -6,3 +6,5 @@ pub mod Histories
 pub mod Restriction
 pub mod Merge
 pub mod Examples
+pub mod Records
+pub mod Replies

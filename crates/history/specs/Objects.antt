@@ -7,8 +7,8 @@ use Rattle.bsan_ids.specs.declared.numbers.Prov.{Prov}
 use Rattle.bsan_ids.specs.declared.numbers.Span.{Span}
 use Rattle.perm_table.specs.declared.Kind.{Kind}
 use Rattle.perm_table.specs.declared.Kind.TheVariants.{Read, Write}
-use Rattle.perm_table.specs.declared.Violation.{Violation}
-use Rattle.perm_table.specs.declared.Violation.TheVariants.{Stranger, Freed as WasFreed, OutOfRange}
+use Rattle.eager_tree.specs.declared.violation.Violation.{Violation}
+use Rattle.eager_tree.specs.declared.violation.Violation.TheVariants.{Stranger, Freed as WasFreed, OutOfRange}
 use Rattle.eager_tree.specs.Tree.{Tree, new_tree, is_node}
 use Rattle.eager_tree.specs.Steps.{access, retag, end_protector, free_all}
 use Rattle.history.specs.declared.trap.Trap.{Trap}

@@ -5,7 +5,8 @@ use crate::piece::Piece;
 use crate::trap::Trap;
 use bsan_ids::{AllocNo, NoMemory, Prov, Stamp, Tag, ThreadNo};
 use ir_ast::{ModifyOp, Place, Ty, Width};
-use perm_table::{Guard, RetagKind, Violation};
+use eager_tree::Violation;
+use perm_table::{Guard, RetagKind};
 
 /// What an allocation's tree says of a step.
 #[derive(Clone, Copy, Debug, PartialEq, Eq)]

@@ -1,12 +1,15 @@
-//! The requests that threads make, the replies, and the entries that record both.
+//! The requests that threads make, the replies, the entries that record both, and the record of a run.
 #![tactic(auto)]
 
 mod ask;
 mod entry;
 mod examples;
+mod log;
 mod logged;
 mod merge;
+mod merged;
 mod piece;
+mod record;
 mod restriction;
 #[cfg(test)]
 mod tests;
@@ -17,8 +20,10 @@ pub use entry::{Entry, Plain, Reply, Request, Verdict};
 pub use examples::{
     protectors_by_example, provenances_by_example, reborrows_by_example, traps_by_example,
 };
+pub use log::{AllocLog, End, ThreadLog};
 pub use logged::Logged;
 pub use merge::{append_copies, merge_by_stamp, sort_by_stamp};
 pub use piece::Piece;
+pub use record::RunRecord;
 pub use restriction::of_thread;
 pub use trap::Trap;

@@ -33,17 +33,17 @@ use Rattle.ir_ast.specs.declared.program.Jump.TheVariants.{Br, CondBr, Ret, Unre
 use Rattle.ir_ast.specs.declared.program.Block.{Block}
 use Rattle.ir_ast.specs.declared.program.Function.{Function}
 use Rattle.ir_ast.specs.declared.program.Program.{Program}
-use Rattle.ir_rules.specs.declared.Rule.{Rule}
-use Rattle.ir_rules.specs.declared.Rule.TheVariants.{Unknown, Twice, BadTarget, BadCall}
-use Rattle.ir_rules.specs.declared.Wanted.{Wanted}
-use Rattle.ir_rules.specs.declared.Wanted.TheVariants.{AValue}
+use Rattle.ir_rules.specs.declared.rule.Rule.{Rule}
+use Rattle.ir_rules.specs.declared.rule.Rule.TheVariants.{Unknown, Twice, BadTarget, BadCall}
+use Rattle.ir_rules.specs.declared.rule.Wanted.{Wanted}
+use Rattle.ir_rules.specs.declared.rule.Wanted.TheVariants.{AValue}
 use Rattle.ir_rules.specs.Occurrences.{Holds, Use, Event, val_uses, typed_uses, op_uses, goal_uses, jump_uses, jump_goals, param_event, dest_events, op_gives, inst_events, block_events, function_events}
 use Rattle.ir_rules.specs.Occurrences.Event.{defines, uses}
 use Rattle.ir_rules.specs.Paths.{first_named}
 use Rattle.ir_rules.specs.Rules.{held, used, defined, function_named, function_ops, param_types, arg_types, UseBreaks, NameBreaks, OpBreaks, CallFits, SpawnFits, GoalFits, IsAccepted}
 use Rattle.ir_rules.specs.Rules.Broken.{of_use, of_op, of_goal, twice_register, twice_label, twice_function}
-use Rattle.ir_verify.specs.Checks.{call_fits, spawn_fits, goal_fits}
-use Rattle.ir_verify.proofs.Agree.{call_decides, spawn_decides, goal_decides}
+use Rattle.ir_rules.specs.Checks.{call_fits, spawn_fits, goal_fits}
+use Rattle.ir_rules.proofs.Agree.{call_decides, spawn_decides, goal_decides}
 use Rattle.ir_ast.specs.Attributes.{Definition, registers, params_definitions, dest_definitions, inst_definitions, block_definitions, definitions, spawned_attr}
 use Rattle.ir_ast.specs.Numbers.{place, function_names, labels, blocks_end}
 use Rattle.instrument.specs.Translation.{Scope, scope_of}

@@ -5,7 +5,7 @@ ghost use Rattle.instrument.specs.Translation.{translation};
 
 use crate::functions::translate;
 use bsan_ids::NoMemory;
-use ir_verify::Verified;
+use ir_rules::Verified;
 use std::alloc::Global;
 use target_code::Target;
 

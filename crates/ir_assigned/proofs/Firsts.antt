@@ -1,9 +1,9 @@
 -- The first of the faults of a list, and of any of several things.
 use Rattle.std.proofs.Common.{◌≡◌, ℕ, zero, suc, ◌+◌, ◌<◌, ◌≤◌, ◌⊎◌, inl, inr, List, [], ◌∷◌, ◌++◌, length, map, take, get_or, Option, Some, None, refl, sym, ap, subst, ◌∙◌, arith}
 use Rattle.std.proofs.Math.Seq.{take-suc}
-use Rattle.ir_rules.specs.declared.Fault.{Fault}
+use Rattle.ir_rules.specs.declared.rule.Fault.{Fault}
 use Rattle.ir_rules.specs.Least.{rank, lesser, NotAfter, IsLeast}
-use Rattle.ir_occurrences.proofs.Least.{least-or, least-same}
+use Rattle.ir_rules.proofs.Least.{least-or, least-same}
 use Rattle.ir_assigned.specs.Graph.{In, listed}
 use Rattle.ir_assigned.specs.Faults.{AnyOf}
 

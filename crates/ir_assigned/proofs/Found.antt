@@ -8,14 +8,14 @@ use Rattle.ir_ast.specs.declared.program.Block.{Block}
 use Rattle.ir_ast.specs.declared.program.Param.{Param}
 use Rattle.ir_ast.specs.declared.program.Function.{Function}
 use Rattle.ir_ast.specs.declared.program.Program.{Program}
-use Rattle.ir_rules.specs.declared.Fault.{Fault}
-use Rattle.ir_rules.specs.declared.Rule.TheVariants.{Unassigned}
+use Rattle.ir_rules.specs.declared.rule.Fault.{Fault}
+use Rattle.ir_rules.specs.declared.rule.Rule.TheVariants.{Unassigned}
 use Rattle.ir_rules.specs.Occurrences.{Holds, Use, Event, block_events, param_event, function_events}
 use Rattle.ir_rules.specs.Occurrences.Event.{defines, uses}
 use Rattle.ir_rules.specs.Paths.{Avoids, IsPath, IsUnassigned}
 use Rattle.ir_rules.specs.Rules.{held, UnassignedFault}
 use Rattle.ir_rules.specs.Least.{fault, IsLeast}
-use Rattle.ir_occurrences.proofs.Least.{least-same}
+use Rattle.ir_rules.proofs.Least.{least-same}
 use Rattle.flow_paths.specs.Paths.{IsMarked, Answers}
 use Rattle.ir_assigned.specs.declared.mentions.Mention.{Mention}
 use Rattle.ir_assigned.specs.Graph.{In, assigns, successors, IsGraphOf, early}

@@ -2,8 +2,8 @@
 use Rattle.std.proofs.Common.{◌≡◌, ℕ, zero, suc, ◌+◌, ◌<◌, inl, inr, Bool, true, false, cond, not, List, [], ◌∷◌, ◌++◌, length, map, replicate, set, take, get_or, Option, Some, None, refl, sym, ap, subst, ◌∙◌, append_assoc, arith}
 use Rattle.std.specs.Prelude.{slice_get, ◌&&◌, ◌||◌}
 use Rattle.std.specs.Str.{bytes_eq}
-use Rattle.ir_rules.specs.declared.Fault.{Fault}
-use Rattle.ir_rules.specs.declared.Rule.TheVariants.{Unassigned}
+use Rattle.ir_rules.specs.declared.rule.Fault.{Fault}
+use Rattle.ir_rules.specs.declared.rule.Rule.TheVariants.{Unassigned}
 use Rattle.ir_rules.specs.Occurrences.{Use, Event}
 use Rattle.ir_rules.specs.Occurrences.Event.{defines, uses}
 use Rattle.ir_rules.specs.Least.{fault, lesser, IsLeast}

@@ -8,10 +8,10 @@ use Rattle.std.specs.Cmp.Lexicographic.{bytes_decides, nat_list_eq_equiv}
 use Rattle.ir_ast.specs.declared.program.Block.{Block}
 use Rattle.ir_rules.specs.Occurrences.{Event, block_events}
 use Rattle.ir_rules.specs.Occurrences.Event.{defines, uses}
-use Rattle.ir_occurrences.specs.Seen.{seen, event_of, event_by}
-use Rattle.ir_occurrences.specs.declared.events.Role.{Role}
-use Rattle.ir_occurrences.specs.declared.events.Role.TheVariants.{Defines, Uses}
-use Rattle.ir_occurrences.specs.declared.events.Occurrence.{Occurrence}
+use Rattle.ir_rules.specs.Seen.{seen, event_of, event_by}
+use Rattle.ir_rules.specs.declared.events.Role.{Role}
+use Rattle.ir_rules.specs.declared.events.Role.TheVariants.{Defines, Uses}
+use Rattle.ir_rules.specs.declared.events.Occurrence.{Occurrence}
 use Rattle.ir_assigned.specs.declared.mentions.Mention.{Mention}
 use Rattle.ir_assigned.specs.Mentions.{register_of, mention_of, mention_if, mentions, mentions_from}
 use Rattle.ir_assigned.proofs.Firsts.{take_next}

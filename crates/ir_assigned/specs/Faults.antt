@@ -1,8 +1,8 @@
 -- Unassigned uses as faults: of a register, of a function.
 use Rattle.std.specs.Prelude.{◌≡◌, ℕ, ◌⊎◌, List, [], ◌∷◌, Some}
 use Rattle.ir_ast.specs.declared.program.Function.{Function}
-use Rattle.ir_rules.specs.declared.Fault.{Fault}
-use Rattle.ir_rules.specs.declared.Rule.TheVariants.{Unassigned}
+use Rattle.ir_rules.specs.declared.rule.Fault.{Fault}
+use Rattle.ir_rules.specs.declared.rule.Rule.TheVariants.{Unassigned}
 use Rattle.ir_rules.specs.Occurrences.{Holds, Use, Event, function_events}
 use Rattle.ir_rules.specs.Occurrences.Event.{defines, uses}
 use Rattle.ir_rules.specs.Paths.{IsUnassigned}

@@ -9,8 +9,8 @@ use Rattle.std.specs.Cmp.Lexicographic.{slice_cmp}
 use Rattle.std.specs.Ordering.{nat_cmp}
 use Rattle.std.specs.Option.{option_map_or}
 use Rattle.std.specs.Str.{bytes_eq}
-use Rattle.ir_rules.specs.declared.Fault.{Fault}
-use Rattle.ir_rules.specs.declared.Rule.TheVariants.{Unassigned}
+use Rattle.ir_rules.specs.declared.rule.Fault.{Fault}
+use Rattle.ir_rules.specs.declared.rule.Rule.TheVariants.{Unassigned}
 use Rattle.ir_rules.specs.Occurrences.{Event}
 use Rattle.ir_rules.specs.Occurrences.Event.{defines, uses}
 use Rattle.ir_rules.specs.Least.{fault, IsLeast}

@@ -10,7 +10,7 @@ ghost use Rattle.ir_assigned.specs.Graph.{listed, successors};
 
 use bsan_ids::{ListOf, NoMemory};
 use ir_ast::{Block, Goal, Jump};
-use ir_occurrences::first_places;
+use ir_rules::first_places;
 use std::alloc::Global;
 use std::collections::BTreeMap;
 

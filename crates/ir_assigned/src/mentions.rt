@@ -2,12 +2,12 @@
 ghost use Rattle.std.specs.Prelude.{◌≡◌, ◌++◌, ℕ, List, map, IfOk, OnOk};
 ghost use Rattle.std.specs.Str.{bytes_eq};
 ghost use Rattle.ir_rules.specs.Occurrences.{block_events};
-ghost use Rattle.ir_occurrences.specs.Seen.{seen, event_of};
+ghost use Rattle.ir_rules.specs.Seen.{seen, event_of};
 ghost use Rattle.ir_assigned.specs.Mentions.{mention_of, mention_if, mentions, mentions_from, mentions_in};
 
 use bsan_ids::NoMemory;
 use ir_ast::Block;
-use ir_occurrences::{Occurrence, Role, note_block};
+use ir_rules::{Occurrence, Role, note_block};
 use std::alloc::Global;
 use std::collections::BTreeMap;
 

@@ -2,7 +2,6 @@ pub mod Adds
 pub mod Counts
 pub mod Placed
 pub mod Small
-pub mod Cut
 pub mod Limits
 pub mod Single
 pub mod Writable

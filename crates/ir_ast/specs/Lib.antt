@@ -13,5 +13,4 @@ pub mod Numbers
 pub mod Sizes
 pub mod Attributes
 pub mod Places
-pub mod Lexes
 pub mod Arithmetic

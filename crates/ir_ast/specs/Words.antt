@@ -17,9 +17,17 @@ abbrev pub ty_bytes : Ty → ℕ
 ty_bytes (Int width) = width_bytes width
 ty_bytes Ptr = 8
 
+-- how many bits an integer of this width has
+abbrev pub bits : Width → ℕ
+bits width = 8 * width_bytes width
+
+-- how many bits a value of this type has
+abbrev pub word_bits : Ty → ℕ
+word_bits ty = 8 * ty_bytes ty
+
 -- how many numbers a width has
 abbrev pub modulus : Width → ℕ
-modulus width = 2 ^ (8 * width_bytes width)
+modulus width = 2 ^ bits width
 
 abbrev pub word_of : List ℕ → ℕ
 word_of [] = 0

@@ -1,7 +1,7 @@
 -- What of a program can stand in a text: names that tokens can have, and numbers in the range of their places.
 use Rattle.std.specs.Prelude.{◌≡◌, ℕ, ◌^◌, ◌<◌, true, List, [], ◌∷◌, length, Option, Some, None, IfSome}
 use Rattle.std.specs.List.{list_all}
-use Rattle.ir_text.specs.Bytes.{is_start, is_name}
+use Rattle.bsan_ids.specs.Names.{is_start, is_name}
 use Rattle.ir_ast.specs.Words.{modulus}
 use Rattle.ir_ast.specs.Tokens.{Each}
 use Rattle.ir_ast.specs.Grammar.{numbers_of}

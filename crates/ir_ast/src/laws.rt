@@ -1,24 +1,15 @@
 //! Laws of canonical texts. The functions do nothing: their contracts are what is promised.
 ghost use Rattle.std.specs.Prelude.{◌≡◌};
-ghost use Rattle.ir_ast.specs.Tokens.{forms};
-ghost use Rattle.ir_ast.specs.Lines.{spell};
 ghost use Rattle.ir_ast.specs.Texts.{canonical};
 ghost use Rattle.ir_ast.specs.Shapes.{IsShaped};
 ghost use Rattle.ir_ast.specs.Writable.{IsWritable};
 ghost use Rattle.ir_ast.specs.Programs.{IsProgram, KeepsLimits};
 ghost use Rattle.ir_ast.specs.Places.{SameUpToPlaces};
-ghost use Rattle.ir_ast.specs.Lexes.{IsCut};
 ghost use Rattle.ir_ast.specs.declared.program.Program.{Program};
 
 /// Programs that differ in places alone have one canonical text.
 pub fn one_text()
     ensures { (p q : Program) → SameUpToPlaces p q → canonical p ≡ canonical q }
-{}
-
-/// The canonical text of a program that the grammar can give is cut into tokens of just the forms
-/// that the program is written with.
-pub fn canonical_is_cut()
-    ensures { (p : Program) → IsProgram p → IsCut (canonical p) (forms (spell p)) }
 {}
 
 /// A program that the grammar can give keeps the limits on functions, instructions and registers.

@@ -13,7 +13,7 @@ mod words;
 mod writer;
 
 pub use hosts::{HostEntry, HostRule, HostTable};
-pub use laws::{canonical_is_cut, given_by_parts, keeps_limits, one_proof, one_text};
+pub use laws::{given_by_parts, keeps_limits, one_proof, one_text};
 pub use operators::{BinaryOp, CastOp, Cond, ModifyOp};
 pub use printer::print;
 pub use program::{

@@ -4,13 +4,13 @@ use Rattle.ir_text.specs.declared.token.Token.{Token}
 use Rattle.phrase.specs.Whole.{all_of}
 use Rattle.phrase.specs.declared.Cause.{Cause}
 use Rattle.ir_ast.specs.Tokens.{Form, Lex, Asked, Spelled, forms}
-use Rattle.ir_ast.specs.Lexes.{lex, IsCut}
+use Rattle.phrase.specs.Lexes.{lex, IsCut}
 use Rattle.ir_ast.specs.Lines.{spell}
 use Rattle.ir_ast.specs.Texts.{canonical}
 use Rattle.ir_ast.specs.Places.{function_without, SameUpToPlaces}
 use Rattle.ir_ast.specs.declared.program.Function.{Function}
 use Rattle.ir_ast.specs.declared.program.Program.{Program}
-use Rattle.ir_ast.proofs.Cut.{canonical_is_cut}
+use Rattle.phrase.proofs.Cut.{canonical_is_cut}
 use Rattle.ir_reader.specs.View.{lexes}
 use Rattle.ir_reader.specs.Blocks.{program_at}
 use Rattle.ir_reader.specs.Laws.{with_end}

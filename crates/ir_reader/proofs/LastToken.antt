@@ -1,7 +1,7 @@
 -- The last token of a list.
 use Rattle.std.proofs.Common.{◌≡◌, ℕ, zero, suc, ◌+◌, Bool, List, [], ◌∷◌, length, get_or, arith}
 use Rattle.ir_text.specs.declared.token.Token.{Token}
-use Rattle.ir_ast.specs.Lexes.{lex, token_bytes}
+use Rattle.phrase.specs.Lexes.{lex, token_bytes}
 use Rattle.ir_reader.specs.declared.marks.Mark.TheVariants.{Equals}
 use Rattle.ir_reader.specs.View.{lexes}
 use Rattle.ir_reader.specs.Wants.{is_mark, kind_is}

@@ -8,7 +8,7 @@ use Rattle.ir_text.specs.Lexed.Outcome.{good}
 use Rattle.phrase.specs.Whole.{all_of}
 use Rattle.phrase.specs.declared.Cause.{Cause}
 use Rattle.ir_ast.specs.Tokens.{Lex}
-use Rattle.ir_ast.specs.Lexes.{lex}
+use Rattle.phrase.specs.Lexes.{lex}
 use Rattle.ir_ast.specs.Programs.{IsProgram, KeepsLimits}
 use Rattle.ir_ast.specs.declared.program.Program.{Program}
 use Rattle.ir_ast.proofs.Limits.{keeps_limits}

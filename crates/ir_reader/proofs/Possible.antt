@@ -8,7 +8,7 @@ use Rattle.ir_text.specs.Lexed.Outcome.{good, bad}
 use Rattle.ir_text.specs.Lexed.Lexed.{ended, blank, comment, token, refused}
 use Rattle.ir_text.proofs.Written.{drop_front}
 use Rattle.ir_ast.specs.Tokens.{Lex, Asked, Each, Spelled}
-use Rattle.ir_ast.specs.Lexes.{form_of}
+use Rattle.phrase.specs.Lexes.{form_of}
 use Rattle.ir_ast.specs.Lines.{spell}
 use Rattle.ir_ast.specs.Programs.{IsPossible, CanStand, IsProgram}
 use Rattle.ir_ast.specs.declared.program.Program.{Program}

@@ -2,7 +2,7 @@
 use Rattle.std.specs.Prelude.{◌≡◌, ℕ, ◌++◌, Bool, false, List, [], ◌∷◌, map, Result, Ok, Err}
 use Rattle.ir_text.specs.declared.token.Token.{Token}
 use Rattle.ir_ast.specs.Tokens.{Lex}
-use Rattle.ir_ast.specs.Lexes.{lex}
+use Rattle.phrase.specs.Lexes.{lex}
 use Rattle.phrase.specs.Reading.{Got, ◌>>=◌}
 use Rattle.ir_reader.specs.declared.stop.Stop.{Stop}
 use Rattle.ir_reader.specs.declared.stop.Stop.TheVariants.{Memory, At}

@@ -1,7 +1,7 @@
 //! Single tokens: names, numbers, and words that stand for a value.
 ghost use Rattle.std.specs.Prelude.{◌≡◌, ◌+◌, ◌^◌, take, drop};
 ghost use Rattle.ir_ast.specs.Words.{modulus};
-ghost use Rattle.ir_ast.specs.Lexes.{token_bytes};
+ghost use Rattle.phrase.specs.Lexes.{token_bytes};
 ghost use Rattle.phrase.specs.Reading.{one};
 ghost use Rattle.ir_reader.specs.View.{lexes, Gives, begins};
 ghost use Rattle.ir_reader.specs.Tables.{widths, types, results, kinds, conds, modifiers};

@@ -4,6 +4,7 @@ use Rattle.std.specs.List.{flat_map, count_by}
 use Rattle.std.specs.Str.{bytes_eq}
 use Rattle.std.specs.Prelude.{codes}
 use Rattle.ir_ast.specs.Tokens.{Each}
+use Rattle.ir_ast.specs.Words.{bits}
 use Rattle.ir_ast.specs.declared.program.Named.{Named}
 use Rattle.ir_ast.specs.declared.program.Param.{Param}
 use Rattle.ir_ast.specs.declared.types.Ty.{Ty}
@@ -21,11 +22,11 @@ use Rattle.ir_ast.specs.declared.operators.CastOp.{CastOp}
 use Rattle.ir_ast.specs.declared.operators.CastOp.TheVariants.{Zext, Sext, Trunc}
 use Rattle.ir_ast.specs.declared.program.Jump.{Jump}
 use Rattle.ir_ast.specs.declared.program.Jump.TheVariants.{Ret}
-use Rattle.ir_rules.specs.declared.Rule.{Rule}
-use Rattle.ir_rules.specs.declared.Rule.TheVariants.{Unknown, Twice, TypeClash, Unassigned, BadTarget, BadCall, HandleUse, NoMain}
-use Rattle.ir_rules.specs.declared.Wanted.{Wanted}
-use Rattle.ir_rules.specs.declared.Wanted.TheVariants.{AValue, AHandle}
-use Rattle.ir_rules.specs.declared.Fault.{Fault}
+use Rattle.ir_rules.specs.declared.rule.Rule.{Rule}
+use Rattle.ir_rules.specs.declared.rule.Rule.TheVariants.{Unknown, Twice, TypeClash, Unassigned, BadTarget, BadCall, HandleUse, NoMain}
+use Rattle.ir_rules.specs.declared.rule.Wanted.{Wanted}
+use Rattle.ir_rules.specs.declared.rule.Wanted.TheVariants.{AValue, AHandle}
+use Rattle.ir_rules.specs.declared.rule.Fault.{Fault}
 use Rattle.ir_ast.specs.declared.hosts.HostTable.{HostTable}
 use Rattle.ir_ast.specs.declared.hosts.HostEntry.{HostEntry}
 use Rattle.ir_rules.specs.Occurrences.{Holds, Use, Event, jump_goals, function_events}
@@ -67,12 +68,6 @@ param_types = map (λ p. p.ty)
 
 abbrev pub arg_types : List TypedVal → List Ty
 arg_types = map (λ v. v.ty)
-
-abbrev pub bits : Width → ℕ
-bits W8 = 8
-bits W16 = 16
-bits W32 = 32
-bits W64 = 64
 
 -- ---- each rule
 

@@ -3,7 +3,8 @@ use Rattle.std.proofs.Common.{◌≡◌, ℕ, zero, suc, ◌+◌, ◌≤◌, ◌
 use Rattle.std.specs.Prelude.{take_while, not}
 use Rattle.std.specs.List.{list_all}
 use Rattle.std.proofs.lemmas.Bool.{eqb-true, leb-true, lt-leb}
-use Rattle.ir_text.specs.Bytes.{is_blank, is_digit, is_start, is_name, in_line, mark_of}
+use Rattle.bsan_ids.specs.Names.{is_digit, is_start, is_name}
+use Rattle.ir_text.specs.Bytes.{is_blank, in_line, mark_of}
 use Rattle.ir_text.specs.Step.{named, arrow_of, marked, step_of}
 use Rattle.ir_text.specs.Lexed.{IsForm, IsComment}
 use Rattle.ir_text.specs.declared.token.TokenKind.{TokenKind}

@@ -3,7 +3,7 @@ use Rattle.std.proofs.Common.{◌≡◌, ℕ, suc, ◌+◌, ◌<◌, Bool, true,
 use Rattle.std.specs.Prelude.{take_while}
 use Rattle.std.specs.List.{list_all}
 use Rattle.std.proofs.lemmas.List.Sums.{take_while-cons}
-use Rattle.ir_text.specs.Bytes.{is_digit, is_name}
+use Rattle.bsan_ids.specs.Names.{is_digit, is_name}
 use Rattle.ir_text.specs.Step.{step_of, named}
 use Rattle.ir_text.specs.Lexed.{IsForm, Outcome, after_token, Lexed}
 use Rattle.ir_text.specs.Laws.{StopsAt, EndsBefore}

@@ -1,6 +1,6 @@
 -- Laws of the tokens of a text.
 use Rattle.std.specs.Prelude.{◌≡◌, ℕ, ◌+◌, ◌<◌, ◌≤◌, Bool, false, List, [], ◌∷◌, ◌++◌, length}
-use Rattle.ir_text.specs.Bytes.{is_digit, is_name}
+use Rattle.bsan_ids.specs.Names.{is_digit, is_name}
 use Rattle.ir_text.specs.Lexed.{IsForm, Outcome, after_token, cut_at, Lexed}
 use Rattle.ir_text.specs.Lexed.Outcome.{good}
 use Rattle.ir_text.specs.declared.token.TokenKind.{TokenKind}

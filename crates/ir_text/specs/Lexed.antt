@@ -1,7 +1,8 @@
 -- The tokens of a text.
 use Rattle.std.specs.Prelude.{◌≡◌, ℕ, ◌+◌, ◌<◌, ◌≤◌, true, List, [], ◌∷◌, ◌++◌, length, take}
 use Rattle.std.specs.List.{list_all}
-use Rattle.ir_text.specs.Bytes.{is_blank, is_digit, is_start, is_name, in_line}
+use Rattle.bsan_ids.specs.Names.{is_digit, is_start, is_name}
+use Rattle.ir_text.specs.Bytes.{is_blank, in_line}
 use Rattle.ir_text.specs.declared.token.TokenKind.{TokenKind}
 use Rattle.ir_text.specs.declared.token.TokenKind.TheVariants.{Word, Local, Global, Number, OpenRound, CloseRound, OpenBrace, CloseBrace, Comma, Colon, Equals, Arrow}
 use Rattle.ir_text.specs.declared.token.Token.{Token}

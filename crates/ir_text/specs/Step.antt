@@ -1,6 +1,7 @@
 -- What stands at the front of a text, by its first byte.
 use Rattle.std.specs.Prelude.{ℕ, ◌+◌, ◌==◌, List, [], ◌∷◌, length, take_while, Option, Some, None, if◌then◌else◌}
-use Rattle.ir_text.specs.Bytes.{is_blank, is_digit, is_start, is_name, in_line, mark_of}
+use Rattle.bsan_ids.specs.Names.{is_digit, is_start, is_name}
+use Rattle.ir_text.specs.Bytes.{is_blank, in_line, mark_of}
 use Rattle.ir_text.specs.declared.token.TokenKind.{TokenKind}
 use Rattle.ir_text.specs.declared.token.TokenKind.TheVariants.{Word, Local, Global, Number, Arrow}
 use Rattle.ir_text.specs.declared.step.Step.{Step}

@@ -1,7 +1,8 @@
 //! What stands at the front of a text.
 
 ghost use Rattle.std.specs.Prelude.{◌≡◌, ◌+◌, length, take_while};
-ghost use Rattle.ir_text.specs.Bytes.{is_blank, is_digit, is_start, is_name, in_line, mark_of};
+ghost use Rattle.bsan_ids.specs.Names.{is_digit, is_start, is_name};
+ghost use Rattle.ir_text.specs.Bytes.{is_blank, in_line, mark_of};
 ghost use Rattle.ir_text.specs.Step.{step_of, named, arrow_of};
 
 use crate::token::TokenKind;

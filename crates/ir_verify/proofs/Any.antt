@@ -4,10 +4,10 @@ use Rattle.std.specs.Prelude.{Contains}
 use Rattle.std.specs.List.{flat_map}
 use Rattle.std.proofs.Math.Seq.{take-suc}
 use Rattle.std.proofs.lemmas.List.Elements.{Contains-append_cases, Contains-append_left, Contains-append_right}
-use Rattle.ir_rules.specs.declared.Fault.{Fault}
+use Rattle.ir_rules.specs.declared.rule.Fault.{Fault}
 use Rattle.ir_rules.specs.Least.{lesser, IsLeast}
-use Rattle.ir_occurrences.proofs.Least.{least-or, least-same}
-use Rattle.ir_occurrences.proofs.Uses.{head_of, take_whole}
+use Rattle.ir_rules.proofs.Least.{least-or, least-same}
+use Rattle.ir_rules.proofs.Uses.{head_of, take_whole}
 use Rattle.ir_verify.specs.Faults.{AnyOf}
 
 any-join : {A : Type 0} (S : A → Fault → Type 0) (xs : List A) (e : A) (x : Fault) → AnyOf S (xs ++ e ∷ []) x → AnyOf S xs x ⊎ S e x

@@ -1,8 +1,6 @@
 pub mod Any
-pub mod Agree
 pub mod Said
 pub mod Steps
 pub mod Seconds
 pub mod Whole
 pub mod Ways
-pub mod Limits

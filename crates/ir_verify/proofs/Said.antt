@@ -14,17 +14,17 @@ use Rattle.ir_ast.specs.declared.program.Block.{Block}
 use Rattle.ir_ast.specs.declared.program.Function.{Function}
 use Rattle.ir_ast.specs.declared.program.Program.{Program}
 use Rattle.ir_ast.specs.declared.hosts.HostEntry.{HostEntry}
-use Rattle.ir_rules.specs.declared.Rule.{Rule}
-use Rattle.ir_rules.specs.declared.Rule.TheVariants.{Unknown, Twice, TypeClash, Unassigned, BadTarget, BadCall, HandleUse, NoMain}
-use Rattle.ir_rules.specs.declared.Fault.{Fault}
+use Rattle.ir_rules.specs.declared.rule.Rule.{Rule}
+use Rattle.ir_rules.specs.declared.rule.Rule.TheVariants.{Unknown, Twice, TypeClash, Unassigned, BadTarget, BadCall, HandleUse, NoMain}
+use Rattle.ir_rules.specs.declared.rule.Fault.{Fault}
 use Rattle.ir_rules.specs.Least.{fault, IsLeast}
 use Rattle.ir_rules.specs.Occurrences.{Holds, Event}
 use Rattle.ir_rules.specs.Occurrences.Holds.{value, handle}
 use Rattle.ir_rules.specs.Rules.{held, function_named, host_named, NameBreaks, JoinBreaks, OpBreaks, CallFits, SpawnFits, HostFits, IsConversion, GoalFits, HasMain, ret_type}
-use Rattle.ir_occurrences.proofs.Least.{least-same, same-after}
+use Rattle.ir_rules.proofs.Least.{least-same, same-after}
 use Rattle.ir_verify.specs.Faults.{OpFault, RetFault, GoalFault, FirstBlockFault, NoMainFault}
-use Rattle.ir_verify.specs.Checks.{unless, call_fits, spawn_fits, host_fits, name_fault, joined, join_fault, is_conversion, same_result, op_fault, ret_fault, goal_fits, goal_fault, first_block_fault, is_main}
-use Rattle.ir_verify.proofs.Agree.{call_decides, spawn_decides, host_decides, conversion_decides, result_decides, goal_decides, empty_decides, main_decides}
+use Rattle.ir_rules.specs.Checks.{unless, call_fits, spawn_fits, host_fits, name_fault, joined, join_fault, is_conversion, same_result, op_fault, ret_fault, goal_fits, goal_fault, first_block_fault, is_main}
+use Rattle.ir_rules.proofs.Agree.{call_decides, spawn_decides, host_decides, conversion_decides, result_decides, goal_decides, empty_decides, main_decides}
 
 -- a single fault, where the rule asks for P
 abbrev Unless : Type 0 → Fault → Fault → Type 0

@@ -6,15 +6,15 @@ use Rattle.std.specs.Option.{is_some}
 use Rattle.std.specs.Cmp.Lexicographic.{bytes_decides, nat_list_eq_equiv}
 use Rattle.std.proofs.lemmas.Grind.{common_steps}
 use Rattle.ir_ast.specs.declared.program.Named.{Named}
-use Rattle.ir_rules.specs.declared.Rule.{Rule}
-use Rattle.ir_rules.specs.declared.Rule.TheVariants.{Twice}
-use Rattle.ir_rules.specs.declared.Fault.{Fault}
+use Rattle.ir_rules.specs.declared.rule.Rule.{Rule}
+use Rattle.ir_rules.specs.declared.rule.Rule.TheVariants.{Twice}
+use Rattle.ir_rules.specs.declared.rule.Fault.{Fault}
 use Rattle.ir_rules.specs.Least.{fault, lesser, IsLeast}
 use Rattle.ir_rules.specs.Occurrences.{Event, Holds, Use}
 use Rattle.ir_rules.specs.Occurrences.Event.{defines, uses}
 use Rattle.ir_rules.specs.Rules.{defined}
-use Rattle.ir_occurrences.proofs.Least.{least-or, least-same, same-after}
-use Rattle.ir_occurrences.proofs.Uses.{take_whole}
+use Rattle.ir_rules.proofs.Least.{least-or, least-same, same-after}
+use Rattle.ir_rules.proofs.Uses.{take_whole}
 use Rattle.ir_verify.specs.declared.twice.Times.{Times}
 use Rattle.ir_verify.specs.declared.twice.Times.TheVariants.{Once, More}
 use Rattle.ir_verify.specs.Faults.{TwiceFault}

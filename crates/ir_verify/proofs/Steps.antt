@@ -10,8 +10,8 @@ use Rattle.ir_ast.specs.declared.program.TypedVal.{TypedVal}
 use Rattle.ir_ast.specs.declared.program.Named.{Named}
 use Rattle.ir_rules.specs.Paths.{place_named, option_suc}
 use Rattle.ir_rules.specs.Rules.{param_types, arg_types}
-use Rattle.ir_verify.specs.Checks.{same_ty, takes, is_host_type, all_host_types}
-use Rattle.ir_verify.proofs.Agree.{types_decide}
+use Rattle.ir_rules.specs.Checks.{same_ty, takes, is_host_type, all_host_types}
+use Rattle.ir_rules.proofs.Agree.{types_decide}
 
 pub taken-next : {A : Type 0} (xs : List A) (i : ℕ) (d : A) → i < length xs → take (i + 1) xs ≡ take i xs ++ get_or xs i d ∷ []
 taken-next xs i d lt = let next : i + 1 ≡ suc i = omega arith in ap (λ (n : ℕ). take n xs) next ∙ take-suc xs i d lt

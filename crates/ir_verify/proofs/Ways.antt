@@ -11,15 +11,15 @@ use Rattle.std.specs.Cmp.Lexicographic.{bytes_decides}
 use Rattle.std.proofs.lemmas.List.Elements.{Contains-append_left, Contains-append_right}
 use Rattle.ir_ast.specs.declared.types.Ty.{Ty}
 use Rattle.ir_ast.specs.declared.program.Named.{Named}
-use Rattle.ir_verify.specs.Checks.{same_ty}
-use Rattle.ir_verify.proofs.Agree.{ty_decides}
+use Rattle.ir_rules.specs.Checks.{same_ty}
+use Rattle.ir_rules.proofs.Agree.{ty_decides}
 use Rattle.ir_ast.specs.declared.program.Block.{Block}
 use Rattle.ir_ast.specs.declared.program.Function.{Function}
 use Rattle.ir_ast.specs.declared.program.Program.{Program}
-use Rattle.ir_rules.specs.declared.Rule.{Rule}
-use Rattle.ir_rules.specs.declared.Rule.TheVariants.{Unknown, Twice, TypeClash, HandleUse, Unassigned}
-use Rattle.ir_rules.specs.declared.Wanted.{Wanted}
-use Rattle.ir_rules.specs.declared.Wanted.TheVariants.{AValue, AHandle}
+use Rattle.ir_rules.specs.declared.rule.Rule.{Rule}
+use Rattle.ir_rules.specs.declared.rule.Rule.TheVariants.{Unknown, Twice, TypeClash, HandleUse, Unassigned}
+use Rattle.ir_rules.specs.declared.rule.Wanted.{Wanted}
+use Rattle.ir_rules.specs.declared.rule.Wanted.TheVariants.{AValue, AHandle}
 use Rattle.ir_ast.specs.declared.hosts.HostTable.{HostTable}
 use Rattle.ir_rules.specs.Occurrences.{Holds, Use, Event, block_events, function_events, param_event}
 use Rattle.ir_rules.specs.Occurrences.Holds.{value, handle}

@@ -7,14 +7,14 @@ use Rattle.ir_ast.specs.declared.program.Block.{Block}
 use Rattle.ir_ast.specs.declared.program.Function.{Function}
 use Rattle.ir_ast.specs.declared.program.Program.{Program}
 use Rattle.ir_ast.specs.declared.hosts.HostTable.{HostTable}
-use Rattle.ir_rules.specs.declared.Rule.{Rule}
-use Rattle.ir_rules.specs.declared.Rule.TheVariants.{Unassigned, BadTarget, NoMain}
-use Rattle.ir_rules.specs.declared.Fault.{Fault}
+use Rattle.ir_rules.specs.declared.rule.Rule.{Rule}
+use Rattle.ir_rules.specs.declared.rule.Rule.TheVariants.{Unassigned, BadTarget, NoMain}
+use Rattle.ir_rules.specs.declared.rule.Fault.{Fault}
 use Rattle.ir_rules.specs.Least.{fault, lesser, IsLeast}
 use Rattle.ir_rules.specs.Occurrences.{jump_goals, function_events}
 use Rattle.ir_rules.specs.Rules.{OpBreaks, function_ops, Broken, BrokenFault, UnassignedFault}
 use Rattle.ir_rules.specs.Rules.Broken.{of_use, of_op, twice_register, twice_label, twice_function, of_ret, of_path, of_goal, of_first, no_main}
-use Rattle.ir_occurrences.proofs.Least.{least-or, least-same}
+use Rattle.ir_rules.proofs.Least.{least-or, least-same}
 use Rattle.ir_verify.specs.Faults.{InstFault, GoalFault, BlockFault, FunctionFault, ProgramFault}
 use Rattle.ir_verify.proofs.Any.{any-item, item-any, in-map, map-in, in-flat, flat-in}
 

@@ -6,8 +6,8 @@ use Rattle.std.specs.Cmp.Lexicographic.{slice_cmp}
 use Rattle.std.specs.Ordering.{nat_cmp}
 use denote.Ref.{Bor}
 use Rattle.ir_ast.specs.declared.program.Named.{Named}
-use Rattle.ir_rules.specs.declared.Rule.TheVariants.{Twice}
-use Rattle.ir_rules.specs.declared.Fault.{Fault}
+use Rattle.ir_rules.specs.declared.rule.Rule.TheVariants.{Twice}
+use Rattle.ir_rules.specs.declared.rule.Fault.{Fault}
 use Rattle.ir_rules.specs.Least.{fault}
 use Rattle.ir_verify.specs.declared.twice.Times.{Times}
 use Rattle.ir_verify.specs.declared.twice.Times.TheVariants.{Once, More}

@@ -15,13 +15,13 @@ use Rattle.ir_ast.specs.declared.program.Block.{Block}
 use Rattle.ir_ast.specs.declared.program.Function.{Function}
 use Rattle.ir_ast.specs.declared.program.Program.{Program}
 use Rattle.ir_ast.specs.declared.hosts.HostEntry.{HostEntry}
-use Rattle.ir_rules.specs.declared.Rule.TheVariants.{Twice, TypeClash, BadTarget, NoMain}
-use Rattle.ir_rules.specs.declared.Fault.{Fault}
+use Rattle.ir_rules.specs.declared.rule.Rule.TheVariants.{Twice, TypeClash, BadTarget, NoMain}
+use Rattle.ir_rules.specs.declared.rule.Fault.{Fault}
 use Rattle.ir_rules.specs.Least.{fault}
 use Rattle.ir_rules.specs.Occurrences.{Event, jump_goals, function_events}
 use Rattle.ir_rules.specs.Paths.{place_named}
 use Rattle.ir_rules.specs.Rules.{HasMain, GoalFits, OpBreaks, RetBreaks, SecondOf, defined}
-use Rattle.ir_occurrences.specs.Walk.{WrongUse}
+use Rattle.ir_rules.specs.Walk.{WrongUse}
 
 -- a fault of one of the items
 abbrev pub AnyOf : {A : Type 0} → (A → Fault → Type 0) → List A → Fault → Type 0

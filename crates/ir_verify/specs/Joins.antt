@@ -3,8 +3,8 @@ use Rattle.std.specs.Prelude.{◌≡◌, ℕ, ◌⊎◌, List, [], ◌∷◌, �
 use Rattle.ir_ast.specs.declared.program.Block.{Block}
 use Rattle.ir_ast.specs.declared.program.Function.{Function}
 use Rattle.ir_ast.specs.declared.program.Program.{Program}
-use Rattle.ir_rules.specs.declared.Wanted.{Wanted}
-use Rattle.ir_rules.specs.declared.Wanted.TheVariants.{AValue, AHandle}
+use Rattle.ir_rules.specs.declared.rule.Wanted.{Wanted}
+use Rattle.ir_rules.specs.declared.rule.Wanted.TheVariants.{AValue, AHandle}
 use Rattle.ir_ast.specs.declared.hosts.HostTable.{HostTable}
 use Rattle.ir_rules.specs.Occurrences.{Holds, Use, Event, block_events, function_events, param_event}
 use Rattle.ir_rules.specs.Occurrences.Holds.{value, handle}

@@ -1,5 +1,4 @@
 pub mod Faults
-pub mod Checks
 pub mod Counts
 pub mod Refusals
 pub mod Joins

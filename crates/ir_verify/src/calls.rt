@@ -1,14 +1,14 @@
 //! Calls, spawns, hosts, joins and casts.
 ghost use Rattle.std.specs.Prelude.{◌≡◌};
 ghost use Rattle.std.specs.Option.{option_copied};
-ghost use Rattle.ir_occurrences.specs.Walk.{held_in};
+ghost use Rattle.ir_rules.specs.Walk.{held_in};
 ghost use Rattle.ir_verify.specs.Faults.{Finds};
-ghost use Rattle.ir_verify.specs.Checks.{call_fits, host_fits, join_fault, name_fault, op_fault, spawn_fits, unless};
+ghost use Rattle.ir_rules.specs.Checks.{call_fits, host_fits, join_fault, name_fault, op_fault, spawn_fits, unless};
 
 use crate::names::{Table, function_named, host_named, joined};
 use crate::types::{all_host_types, is_conversion, is_host_type, same_result, takes};
 use ir_ast::{Function, HostEntry, Named, Op, Ty, TypedVal};
-use ir_occurrences::Held;
+use ir_rules::Held;
 use ir_rules::{Fault, Rule};
 use std::collections::BTreeMap;
 

@@ -10,11 +10,9 @@ mod refusal;
 mod targets;
 mod twice;
 mod types;
-mod verified;
 mod verifier;
 
-pub use ir_rules::Rule;
+pub use ir_rules::{Rule, Verified};
 pub use laws::{joins_find_handles, uses_are_assigned};
 pub use refusal::VerifyFault;
-pub use verified::Verified;
 pub use verifier::verify;

@@ -1,14 +1,14 @@
 //! The names in a program, and what stands for them.
 ghost use Rattle.std.specs.Prelude.{◌≡◌, IfOk, map};
 ghost use Rattle.std.specs.Option.{option_copied};
-ghost use Rattle.ir_occurrences.specs.Walk.{held_in};
+ghost use Rattle.ir_rules.specs.Walk.{held_in};
 ghost use Rattle.ir_rules.specs.Rules.{function_named, host_named};
 ghost use Rattle.ir_verify.specs.Faults.{Finds};
-ghost use Rattle.ir_verify.specs.Checks.{joined};
+ghost use Rattle.ir_rules.specs.Checks.{joined};
 
 use bsan_ids::ListOf;
 use ir_ast::{Block, Function, HostEntry, Named};
-use ir_occurrences::{Held, look_up};
+use ir_rules::{Held, look_up};
 use std::alloc::{AllocError, Global};
 use std::collections::BTreeMap;
 

@@ -1,11 +1,11 @@
 //! The first broken rule of a program.
 ghost use Rattle.std.specs.Prelude.{◌≡◌, IfOk, codes, map};
 ghost use Rattle.std.specs.Option.{option_copied};
-ghost use Rattle.ir_rules.specs.declared.Rule.TheVariants.{NoMain};
+ghost use Rattle.ir_rules.specs.declared.rule.Rule.TheVariants.{NoMain};
 ghost use Rattle.ir_rules.specs.Least.{IsLeast, fault};
 ghost use Rattle.ir_rules.specs.Rules.{function_named};
 ghost use Rattle.ir_verify.specs.Faults.{AnyOf, Finds, FunctionFault, ProgramFault, TwiceFault};
-ghost use Rattle.ir_verify.specs.Checks.{is_main, unless};
+ghost use Rattle.ir_rules.specs.Checks.{is_main, unless};
 
 use crate::calls::unless;
 use crate::functions::function_fault;
@@ -14,7 +14,7 @@ use crate::twice::second_definitions;
 use crate::types::same_result;
 use bsan_ids::ListOf;
 use ir_ast::{Function, HostEntry, HostTable, Program, Ty, Width};
-use ir_occurrences::first_places;
+use ir_rules::first_places;
 use ir_rules::{Fault, Rule, lesser_fault};
 use std::alloc::{AllocError, Global};
 use std::collections::BTreeMap;

@@ -4,7 +4,7 @@ ghost use Rattle.ir_rules.specs.Least.{IsLeast};
 ghost use Rattle.ir_rules.specs.Occurrences.{jump_goals};
 ghost use Rattle.ir_rules.specs.Rules.{ret_type};
 ghost use Rattle.ir_verify.specs.Faults.{AnyOf, Finds, GoalFault};
-ghost use Rattle.ir_verify.specs.Checks.{first_block_fault, goal_fault, goal_fits, ret_fault};
+ghost use Rattle.ir_rules.specs.Checks.{first_block_fault, goal_fault, goal_fits, ret_fault};
 
 use crate::calls::unless;
 use crate::types::{same_result, takes};

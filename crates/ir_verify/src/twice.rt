@@ -3,12 +3,12 @@ ghost use Rattle.std.specs.Prelude.{◌≡◌, ℕ, List, IfOk, OnOk, map};
 ghost use Rattle.std.specs.Str.{bytes_eq};
 ghost use Rattle.ir_rules.specs.Least.{IsLeast};
 ghost use Rattle.ir_rules.specs.Rules.{defined};
-ghost use Rattle.ir_occurrences.specs.Seen.{seen};
+ghost use Rattle.ir_rules.specs.Seen.{seen};
 ghost use Rattle.ir_verify.specs.Faults.{TwiceFault};
 ghost use Rattle.ir_verify.specs.Counts.{next_times, one_more, times_in, twice_fault};
 
 use ir_ast::Named;
-use ir_occurrences::{Occurrence, Role};
+use ir_rules::{Occurrence, Role};
 use ir_rules::{Fault, Rule, lesser_fault};
 use std::alloc::{AllocError, Global};
 use std::collections::BTreeMap;

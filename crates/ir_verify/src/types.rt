@@ -1,10 +1,10 @@
 //! Whether types agree.
 ghost use Rattle.std.specs.Prelude.{◌≡◌};
-ghost use Rattle.ir_rules.specs.Rules.{bits};
-ghost use Rattle.ir_verify.specs.Checks.{all_host_types, is_conversion, is_host_type, same_result, same_ty, takes};
+ghost use Rattle.ir_ast.specs.Words.{bits};
+ghost use Rattle.ir_rules.specs.Checks.{all_host_types, is_conversion, is_host_type, same_result, same_ty, takes};
 
 use ir_ast::{CastOp, Param, Ty, TypedVal, Width};
-use ir_occurrences::ty_number;
+use ir_rules::ty_number;
 
 pub fn same_ty(a: Ty, b: Ty) -> bool
     ensures { result ≡ same_ty a b }

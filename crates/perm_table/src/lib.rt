@@ -3,7 +3,6 @@
 
 mod table;
 
-use bsan_ids::Tag;
 pub use table::{start, step};
 
 /// What a node may still do with a byte.
@@ -68,29 +67,4 @@ pub enum RetagKind {
 pub enum Outcome {
     Next { perm: Perm, accessed: bool },
     Denied,
-}
-
-/// Why a step on an allocation breaks the aliasing rules.
-#[derive(Clone, Copy, Debug, PartialEq, Eq)]
-pub enum Violation {
-    /// The node's state denies the access at this byte. `local` says that the access went through
-    /// the node or a descendant of it.
-    Denied {
-        offset: u32,
-        node: Tag,
-        perm: Perm,
-        local: bool,
-    },
-    /// A free while a strongly guarded node has accessed this byte.
-    StrongFree {
-        offset: u32,
-        node: Tag,
-        perm: Perm,
-    },
-    /// The pointer has no provenance, or one of which the allocation's tree has no node.
-    Stranger,
-    /// A retag of a freed allocation.
-    Freed,
-    /// A retag of bytes past the allocation's end.
-    OutOfRange,
 }

@@ -4,3 +4,4 @@ pub mod Whole
 pub mod ManyFrom
 pub mod Limits
 pub mod Only
+pub mod Cut

@@ -1,6 +1,10 @@
 //! Readers that look one token ahead: how they are put together, and what each of them reads and refuses.
 #![tactic(auto)]
 
+mod laws;
+
+pub use laws::canonical_is_cut;
+
 /// Why a list of tokens is refused at a token, or at its end.
 #[derive(Clone, Copy, Debug, PartialEq, Eq)]
 pub enum Cause {

@@ -4,10 +4,11 @@ use Rattle.std.specs.List.{filter_map, cons_option, flat_map, IsDistinct}
 use Rattle.std.proofs.lemmas.List.Elements.{All-cons, All-head, All-tail}
 use Rattle.std.proofs.lemmas.List.Sorted.{All-permutation}
 use Rattle.history.specs.declared.entry.Entry.{Entry}
-use Rattle.run_record.specs.declared.log.AllocLog.{AllocLog}
-use Rattle.run_record.specs.declared.record.RunRecord.{RunRecord}
-use Rattle.run_record.specs.declared.log.ThreadLog.{ThreadLog}
-use Rattle.run_record.specs.Merge.{stamp_of, thread_entries, alloc_entries, violates, first_violation, first_found, first_violations}
+use Rattle.history.specs.declared.log.AllocLog.{AllocLog}
+use Rattle.history.specs.declared.record.RunRecord.{RunRecord}
+use Rattle.history.specs.declared.log.ThreadLog.{ThreadLog}
+use Rattle.history.specs.Merge.{stamp_of}
+use Rattle.history.specs.Records.{thread_entries, alloc_entries, violates, first_violation, first_found, first_violations}
 use Rattle.history.proofs.Distinct.{by_stamp_moves}
 use Rattle.report.specs.Violation.{IsDescribable}
 use Rattle.report.specs.Report.{IsReportable}

@@ -3,10 +3,11 @@ use Rattle.std.proofs.Common.{◌≡◌, List, [], ◌∷◌, ◌++◌, map, nat
 use Rattle.std.specs.List.{flat_map, IsDistinct}
 use Rattle.std.proofs.lemmas.List.Elements.{All-cons}
 use Rattle.history.specs.declared.entry.Entry.{Entry}
-use Rattle.run_record.specs.declared.log.ThreadLog.{ThreadLog}
-use Rattle.run_record.specs.declared.log.AllocLog.{AllocLog}
-use Rattle.run_record.specs.declared.record.RunRecord.{RunRecord}
-use Rattle.run_record.specs.Merge.{stamp_of, thread_entries, alloc_entries}
+use Rattle.history.specs.declared.log.ThreadLog.{ThreadLog}
+use Rattle.history.specs.declared.log.AllocLog.{AllocLog}
+use Rattle.history.specs.declared.record.RunRecord.{RunRecord}
+use Rattle.history.specs.Merge.{stamp_of}
+use Rattle.history.specs.Records.{thread_entries, alloc_entries}
 use Rattle.report.specs.Violation.{IsDescribable}
 use Rattle.report.specs.Report.{IsReportable}
 use Rattle.report.proofs.Reportable.{IsDescribed}

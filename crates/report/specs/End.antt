@@ -1,9 +1,9 @@
 -- The line of a thread's end.
 use Rattle.std.specs.Prelude.{ℕ, List, [], ◌∷◌, ◌++◌, codes}
 use Rattle.std.specs.Fmt.{decimal}
-use Rattle.run_record.specs.declared.log.End.{End}
-use Rattle.run_record.specs.declared.log.End.TheVariants.{Returned, Trapped, StepLimit, TurnLimit, NoMemory, ChildEnded}
-use Rattle.run_record.specs.declared.log.ThreadLog.{ThreadLog}
+use Rattle.history.specs.declared.log.End.{End}
+use Rattle.history.specs.declared.log.End.TheVariants.{Returned, Trapped, StepLimit, TurnLimit, NoMemory, ChildEnded}
+use Rattle.history.specs.declared.log.ThreadLog.{ThreadLog}
 use Rattle.report.specs.Words.{trap_name}
 
 -- how it ended; `last` is the number of the instruction at which it did

@@ -5,12 +5,12 @@ use Rattle.std.specs.Fmt.{decimal}
 use Rattle.history.specs.declared.entry.Entry.{Entry}
 use Rattle.history.specs.declared.entry.Request.{Request}
 use Rattle.history.specs.declared.entry.Request.TheVariants.{Make, Print}
-use Rattle.run_record.specs.declared.log.End.{End}
-use Rattle.run_record.specs.declared.log.End.TheVariants.{Trapped, StepLimit, TurnLimit, NoMemory}
-use Rattle.run_record.specs.declared.log.ThreadLog.{ThreadLog}
-use Rattle.run_record.specs.declared.log.AllocLog.{AllocLog}
-use Rattle.run_record.specs.declared.record.RunRecord.{RunRecord}
-use Rattle.run_record.specs.Merge.{merged, first_violations, violates, has_violation, HasDistinctStamps}
+use Rattle.history.specs.declared.log.End.{End}
+use Rattle.history.specs.declared.log.End.TheVariants.{Trapped, StepLimit, TurnLimit, NoMemory}
+use Rattle.history.specs.declared.log.ThreadLog.{ThreadLog}
+use Rattle.history.specs.declared.log.AllocLog.{AllocLog}
+use Rattle.history.specs.declared.record.RunRecord.{RunRecord}
+use Rattle.history.specs.Records.{merged, first_violations, violates, has_violation, HasDistinctStamps}
 use Rattle.report.specs.Violation.{violation_line, IsDescribable}
 use Rattle.report.specs.End.{end_line}
 

@@ -4,15 +4,15 @@ use Rattle.std.specs.Fmt.{decimal}
 use Rattle.bsan_ids.specs.declared.numbers.AllocNo.{AllocNo}
 use Rattle.bsan_ids.specs.declared.numbers.Prov.{Prov}
 use Rattle.perm_table.specs.declared.Perm.{Perm}
-use Rattle.perm_table.specs.declared.Violation.{Violation}
-use Rattle.perm_table.specs.declared.Violation.TheVariants.{Denied, StrongFree, Stranger, Freed, OutOfRange}
+use Rattle.eager_tree.specs.declared.violation.Violation.{Violation}
+use Rattle.eager_tree.specs.declared.violation.Violation.TheVariants.{Denied, StrongFree, Stranger, Freed, OutOfRange}
 use Rattle.history.specs.declared.entry.Entry.{Entry}
 use Rattle.history.specs.declared.entry.Request.{Request}
 use Rattle.history.specs.declared.entry.Request.TheVariants.{Make, Load, Store, Modify, CmpXchg, CopyOut, CopyIn, Retag, EndProtector, Free, Print, Host, Spawn, Join}
 use Rattle.history.specs.declared.entry.Verdict.{Verdict}
 use Rattle.history.specs.declared.entry.Verdict.TheVariants.{Clean, Closed, Violated}
 use Rattle.ir_ast.specs.Words.{width_bytes, ty_bytes}
-use Rattle.run_record.specs.Merge.{stamp_of}
+use Rattle.history.specs.Merge.{stamp_of}
 use Rattle.ir_ast.specs.Keywords.{kind_word}
 use Rattle.report.specs.Words.{perm_name}
 

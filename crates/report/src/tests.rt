@@ -1,5 +1,5 @@
 ghost use Rattle.std.specs.Prelude.{◌≡◌, IfOk, IsTrue};
-ghost use Rattle.run_record.specs.Merge.{violates};
+ghost use Rattle.history.specs.Records.{violates};
 ghost use Rattle.report.specs.Violation.{has_deed, IsDescribable};
 ghost use Rattle.report.specs.Report.{IsReportable};
 
@@ -7,7 +7,8 @@ use crate::{part, status_of, text_of, violation_line, what};
 use bsan_ids::{AllocNo, Counters, ListOf, NoMemory, Prov, Stamp, Tag, ThreadNo};
 use history::{Entry, Piece, Plain, Reply, Request, Trap, Verdict};
 use ir_ast::{ModifyOp, Place, Ty, Width};
-use perm_table::{Guard, Perm, RetagKind, Violation};
+use eager_tree::Violation;
+use perm_table::{Guard, Perm, RetagKind};
 use run_record::{AllocLog, End, RunRecord, ThreadLog};
 use std::alloc::Global;
 use std::process::Abort;

@@ -1,7 +1,7 @@
 //! The whole report, its parts, and the status.
 ghost use Rattle.std.specs.Prelude.{◌≡◌, ◌≤◌, All, IfOk, IsTrue, string_bytes};
 ghost use Rattle.std.specs.List.{flat_map, list_any};
-ghost use Rattle.run_record.specs.Merge.{violates, has_violation};
+ghost use Rattle.history.specs.Records.{violates, has_violation};
 ghost use Rattle.report.specs.Violation as violations;
 ghost use Rattle.report.specs.Violation.{IsDescribable};
 ghost use Rattle.report.specs.End as ends;

@@ -1,6 +1,6 @@
 //! The line of a violation.
 ghost use Rattle.std.specs.Prelude.{◌≡◌, IfOk, IsTrue, string_bytes};
-ghost use Rattle.run_record.specs.Merge.{violates};
+ghost use Rattle.history.specs.Records.{violates};
 ghost use Rattle.report.specs.Violation.{IsDescribable, what_text, node_text, why_text};
 ghost use Rattle.report.specs.Violation as lines;
 
@@ -8,7 +8,8 @@ use crate::step::{deed, through};
 use crate::words::perm_name;
 use bsan_ids::{AllocNo, NoMemory, Tag};
 use history::{Entry, Verdict};
-use perm_table::{Perm, Violation};
+use eager_tree::Violation;
+use perm_table::Perm;
 use std::alloc::{AllocError, Global};
 
 fn number_of(entry: &Entry) -> AllocNo

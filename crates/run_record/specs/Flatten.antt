@@ -2,7 +2,7 @@
 use Rattle.std.specs.Prelude.{◌≡◌, ◌+◌, ◌≤◌, List, [], ◌∷◌, ◌++◌, length}
 use Rattle.std.proofs.Common.{arith, length-append, append_assoc, append-nil, ap, sym, ◌∙◌}
 use denote.Param.Weighed.{most}
-use Rattle.run_record.specs.declared.log.ThreadLog.{ThreadLog}
+use Rattle.history.specs.declared.log.ThreadLog.{ThreadLog}
 
 abbrev pub all_logs : List (List ThreadLog) → List ThreadLog
 all_logs [] = []

@@ -1,11 +1,8 @@
-//! The record of a run: each thread's log, each allocation's log, and how many numbers were drawn.
+//! The record of a run: each thread's log, each allocation's log, and how many numbers were drawn;
+//! and a thread's log with those of all threads below it.
 #![tactic(auto)]
 
-mod log;
-mod merge;
-mod record;
 mod tree;
 
-pub use log::{AllocLog, End, ThreadLog};
-pub use record::RunRecord;
+pub use history::{AllocLog, End, RunRecord, ThreadLog};
 pub use tree::ThreadTree;

@@ -2,7 +2,7 @@
 ghost use Rattle.std.specs.Prelude.{◌≡◌, ◌∷◌, ◌++◌, IfOk};
 ghost use Rattle.run_record.specs.Flatten.{all_logs};
 
-use crate::log::ThreadLog;
+use history::ThreadLog;
 use bsan_ids::NoMemory;
 use std::marker::Model;
 
@@ -17,7 +17,7 @@ pub struct ThreadTree {
 impl Model for ThreadTree {
     ghost use Rattle.std.specs.Prelude.{List, ◌∷◌, ℕ, length};
     ghost use Rattle.std.proofs.Common.{arith};
-    ghost use Rattle.run_record.specs.declared.log.ThreadLog.{ThreadLog};
+    ghost use Rattle.history.specs.declared.log.ThreadLog.{ThreadLog};
     ghost use Rattle.run_record.specs.Flatten.{all_logs, most_le-length-all_logs};
 
     ghost Value = { List ThreadLog };

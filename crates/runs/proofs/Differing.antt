@@ -5,7 +5,7 @@ use Rattle.std.specs.List.{IsDistinct, AllByRecursion}
 use Rattle.std.proofs.lemmas.Bool.Decides.{eqb_tells, nat_tests}
 use Rattle.bsan_ids.specs.declared.numbers.AllocNo.{AllocNo}
 use Rattle.history.specs.declared.entry.Entry.{Entry}
-use Rattle.run_record.specs.Merge.{stamp_of}
+use Rattle.history.specs.Merge.{stamp_of}
 use Rattle.runs.specs.Parts.{of_alloc, names}
 use Rattle.runs.specs.Stamps.{Has, RisesFrom}
 use Rattle.runs.proofs.MergeLaws.{above_first}

@@ -14,7 +14,8 @@ use Rattle.history.specs.declared.ask.MachineEnd.TheVariants as end
 use Rattle.runs.specs.Parts.{names, child_of, is_child, spawned_by}
 use Rattle.runs.specs.Machine.{Machine, Memory, TurnsTo, Settles}
 use Rattle.runs.specs.Interleaving.{World, first_world, world_after, HasReturned, Allowed, Replies, Event, Interleaves, last_world}
-use Rattle.runs.specs.Erasure.{erased_plain, erased_reply, erased_request, erased_entry, erasure, is_left_out, StepsAlike, Follows, Erases, trap_of}
+use Rattle.history.specs.Replies.{trap_of}
+use Rattle.runs.specs.Erasure.{erased_plain, erased_reply, erased_request, erased_entry, erasure, is_left_out, StepsAlike, Follows, Erases}
 
 -- turns, one after another
 pub turns_more : (P : Machine) (n k : ℕ) (a b c : P.State) → TurnsTo P n a b → TurnsTo P k b c → Settles P a c

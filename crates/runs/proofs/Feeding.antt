@@ -7,7 +7,7 @@ use Rattle.history.specs.declared.entry.Entry.{Entry}
 use Rattle.runs.specs.Parts.{Answers, child_of}
 use Rattle.runs.specs.Machine.{Machine, MayGoOn, TurnsWithin, SettlesWithin}
 use Rattle.bsan_ids.specs.declared.numbers.Limits.{Limits}
-use Rattle.run_record.specs.declared.log.ThreadLog.{ThreadLog}
+use Rattle.history.specs.declared.log.ThreadLog.{ThreadLog}
 use Rattle.runs.specs.Threads.{Feeds, StartsAs, IsThreadRun}
 use Rattle.runs.specs.Stamps.{Has}
 

@@ -7,7 +7,7 @@ use Rattle.std.proofs.lemmas.List.Sums.{sum_by-cons, sum_by-append}
 use Rattle.bsan_ids.specs.declared.numbers.Limits.{Limits}
 use Rattle.bsan_ids.specs.declared.numbers.ThreadNo.{ThreadNo}
 use Rattle.history.specs.declared.entry.Entry.{Entry}
-use Rattle.run_record.specs.declared.log.ThreadLog.{ThreadLog}
+use Rattle.history.specs.declared.log.ThreadLog.{ThreadLog}
 use Rattle.runs.specs.Interleaving.{Allowed}
 use Rattle.runs.specs.Machine.{Machine, Memory}
 use Rattle.runs.specs.Parts.{child_of}

@@ -3,7 +3,7 @@ use Rattle.std.proofs.Common.{◌≡◌, ℕ, ◌≤◌, Bool, true, false, List
 use Rattle.std.specs.Prelude.{if◌then◌else◌, ◌==◌}
 use Rattle.std.proofs.lemmas.Bool.{eq-eqb}
 use Rattle.history.specs.declared.entry.Entry.{Entry}
-use Rattle.run_record.specs.declared.log.ThreadLog.{ThreadLog}
+use Rattle.history.specs.declared.log.ThreadLog.{ThreadLog}
 use Rattle.runs.specs.Parts.{of_thread, of_alloc, names}
 use Rattle.runs.specs.Stamps.{Has, RisesFrom}
 use Rattle.runs.specs.Merge.{entries_of, IsMerge}

@@ -8,7 +8,7 @@ use Rattle.bsan_ids.specs.declared.numbers.ThreadNo.{ThreadNo}
 use Rattle.history.specs.Restriction as restriction
 use Rattle.history.specs.declared.entry.Entry.{Entry}
 use Rattle.history.specs.Merge.{put_by_stamp, by_stamp}
-use Rattle.run_record.specs.declared.log.ThreadLog.{ThreadLog}
+use Rattle.history.specs.declared.log.ThreadLog.{ThreadLog}
 use Rattle.runs.specs.Merge.{merged_with, merged}
 use Rattle.runs.specs.OneMerge.{OneMerge, OneRestriction}
 use Rattle.runs.specs.Parts.{of_thread, of_alloc, names}

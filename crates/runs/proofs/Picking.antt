@@ -4,8 +4,8 @@ use Rattle.std.specs.Prelude.{Some, None, slice_get}
 use Rattle.std.specs.declared.option.Option.{Option}
 use Rattle.history.specs.declared.ask.Ask.{Ask}
 use Rattle.history.specs.declared.ask.Ask.TheVariants as ask
-use Rattle.run_record.specs.declared.log.End.{End}
-use Rattle.run_record.specs.declared.log.End.TheVariants as log_end
+use Rattle.history.specs.declared.log.End.{End}
+use Rattle.history.specs.declared.log.End.TheVariants as log_end
 use Rattle.history.specs.declared.entry.Entry.{Entry}
 use Rattle.bsan_ids.specs.declared.numbers.Limits.{Limits}
 use Rattle.ir_ast.specs.declared.types.Place.{Place}

@@ -21,7 +21,8 @@ use Rattle.history.specs.Memory.{Memory as Bytes, is_outside, trap_in, next_memo
 use Rattle.history.specs.Fragments.{Shadow, stored_as, fragments_from, next_shadow}
 use Rattle.history.specs.Objects.{Object, Made, data_answer, data_unless, plain_reply, retag_answer, end_answer, answer, Answer}
 use Rattle.history.specs.Pieces.{Byte}
-use Rattle.runs.specs.Erasure.{without_fragments, erased_plain, erased_reply, erased_request, is_left_out, trap_of}
+use Rattle.history.specs.Replies.{trap_of}
+use Rattle.runs.specs.Erasure.{without_fragments, erased_plain, erased_reply, erased_request, is_left_out}
 use Rattle.runs.specs.PlainObjects.{PlainObject, PlainAnswer, told, plain_value, plain_unless, plain_data, plain_answer}
 
 -- the bytes of an allocation

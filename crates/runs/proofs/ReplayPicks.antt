@@ -11,8 +11,8 @@ use Rattle.bsan_ids.specs.declared.numbers.ThreadNo.{ThreadNo}
 use Rattle.history.specs.declared.ask.Ask.{Ask}
 use Rattle.history.specs.declared.ask.Ask.TheVariants as ask
 use Rattle.history.specs.declared.trap.Trap.TheVariants as trap
-use Rattle.run_record.specs.declared.log.End.{End}
-use Rattle.run_record.specs.declared.log.End.TheVariants as log_end
+use Rattle.history.specs.declared.log.End.{End}
+use Rattle.history.specs.declared.log.End.TheVariants as log_end
 use Rattle.runs.specs.Machine.{Machine, Memory}
 use Rattle.runs.specs.Threads.{Feeds, AsksMake, AsksSpawn, TrapsAs, EndsAs}
 use Rattle.runs.specs.Interleaving.{Allowed}

@@ -11,8 +11,8 @@ use Rattle.history.specs.declared.entry.Entry.{Entry}
 use Rattle.history.specs.declared.entry.Plain.TheVariants as plain
 use Rattle.history.specs.declared.entry.Request.TheVariants as request
 use Rattle.history.specs.declared.entry.Verdict.TheVariants as verdict
-use Rattle.run_record.specs.declared.log.End.{End}
-use Rattle.run_record.specs.declared.log.End.TheVariants as log_end
+use Rattle.history.specs.declared.log.End.{End}
+use Rattle.history.specs.declared.log.End.TheVariants as log_end
 use Rattle.runs.specs.Parts.{of_thread, child_of}
 use Rattle.runs.specs.Machine.{Machine, Memory, Settles, SettlesWithin}
 use Rattle.runs.specs.Threads.{Feeds, EndsAs}

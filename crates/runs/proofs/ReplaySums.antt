@@ -14,8 +14,8 @@ use Rattle.history.specs.declared.entry.Reply.{Reply}
 use Rattle.history.specs.declared.entry.Request.{Request}
 use Rattle.history.specs.declared.entry.Request.TheVariants as request
 use Rattle.history.specs.declared.trap.Trap.TheVariants as trap
-use Rattle.run_record.specs.declared.log.End.{End}
-use Rattle.run_record.specs.declared.log.End.TheVariants as log_end
+use Rattle.history.specs.declared.log.End.{End}
+use Rattle.history.specs.declared.log.End.TheVariants as log_end
 use Rattle.runs.specs.Machine.{Machine, Memory}
 use Rattle.runs.specs.Threads.{EndsAs}
 use Rattle.runs.specs.Interleaving.{Allowed}

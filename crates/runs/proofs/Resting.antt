@@ -8,7 +8,7 @@ use Rattle.history.specs.declared.ask.MachineEnd.{MachineEnd}
 use Rattle.history.specs.declared.ask.MachineEnd.TheVariants as end
 use Rattle.history.specs.declared.trap.Trap.{Trap}
 use Rattle.history.specs.declared.trap.Trap.TheVariants as trap
-use Rattle.run_record.specs.declared.log.End.TheVariants as log_end
+use Rattle.history.specs.declared.log.End.TheVariants as log_end
 use Rattle.runs.specs.Machine.{Machine}
 use Rattle.runs.specs.Replay.{RestsAs}
 use Rattle.runs.specs.Threads.{IsOwnTrap, TrapsAs}

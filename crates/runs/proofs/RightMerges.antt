@@ -5,8 +5,8 @@ use Rattle.std.proofs.lemmas.List.Elements.{recursion_from_All}
 use Rattle.bsan_ids.specs.declared.numbers.ThreadNo.{ThreadNo}
 use Rattle.history.specs.declared.entry.Entry.{Entry}
 use Rattle.history.specs.Merge.{put_by_stamp}
-use Rattle.run_record.specs.declared.log.ThreadLog.{ThreadLog}
-use Rattle.run_record.specs.declared.record.RunRecord.{RunRecord}
+use Rattle.history.specs.declared.log.ThreadLog.{ThreadLog}
+use Rattle.history.specs.declared.record.RunRecord.{RunRecord}
 use Rattle.bsan_ids.specs.declared.numbers.Limits.{Limits}
 use Rattle.runs.specs.Interleaving.{Allowed}
 use Rattle.runs.specs.Machine.{Machine, Memory}

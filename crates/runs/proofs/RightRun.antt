@@ -3,12 +3,12 @@ use Rattle.std.proofs.Common.{◌≡◌, ℕ, ◌<◌, ◌≤◌, List, [], ◌�
 use Rattle.std.specs.Prelude.{◌==◌, ◌⊎◌}
 use Rattle.std.specs.declared.option.Option.{Option}
 use Rattle.std.proofs.lemmas.Bool.Decides.{eqb_tells}
-use Rattle.run_record.specs.declared.log.End.TheVariants as log_end
+use Rattle.history.specs.declared.log.End.TheVariants as log_end
 use Rattle.history.specs.declared.entry.Entry.{Entry}
-use Rattle.run_record.specs.declared.log.AllocLog.{AllocLog}
+use Rattle.history.specs.declared.log.AllocLog.{AllocLog}
 use Rattle.bsan_ids.specs.declared.numbers.Limits.{Limits}
 use Rattle.bsan_ids.specs.declared.numbers.Prov.{Prov}
-use Rattle.run_record.specs.declared.log.ThreadLog.{ThreadLog}
+use Rattle.history.specs.declared.log.ThreadLog.{ThreadLog}
 use Rattle.runs.specs.Parts.{of_thread, of_alloc}
 use Rattle.runs.specs.Machine.{Machine, Memory}
 use Rattle.runs.specs.Threads.{IsThreadRun, EndsAs, Feeds}

@@ -16,10 +16,10 @@ use Rattle.history.specs.declared.entry.Reply.{Reply}
 use Rattle.history.specs.declared.entry.Request.{Request}
 use Rattle.history.specs.declared.entry.Request.TheVariants as request
 use Rattle.ir_ast.specs.declared.types.Place.{Place}
-use Rattle.run_record.specs.declared.log.End.{End}
-use Rattle.run_record.specs.declared.log.End.TheVariants as log_end
-use Rattle.run_record.specs.declared.log.ThreadLog.{ThreadLog}
-use Rattle.run_record.specs.declared.record.RunRecord.{RunRecord}
+use Rattle.history.specs.declared.log.End.{End}
+use Rattle.history.specs.declared.log.End.TheVariants as log_end
+use Rattle.history.specs.declared.log.ThreadLog.{ThreadLog}
+use Rattle.history.specs.declared.record.RunRecord.{RunRecord}
 use Rattle.runs.specs.Interleaving.{Allowed, Legal, first_world}
 use Rattle.runs.specs.Machine.{Machine, Memory}
 use Rattle.runs.specs.Merge.{merged, MayMerge, IsMerge}

@@ -15,6 +15,7 @@ use Rattle.history.specs.declared.ask.MachineEnd.{MachineEnd}
 use Rattle.history.specs.declared.ask.MachineEnd.TheVariants as end
 use Rattle.runs.specs.Parts.{Answers}
 use Rattle.runs.specs.Machine.{Machine, Memory, Settles}
+use Rattle.history.specs.Replies.{trap_of}
 
 abbrev pub without_fragments : List Byte → List Byte
 without_fragments piece = map (λ byte. (byte.0, None)) piece
@@ -72,10 +73,6 @@ pub record StepsAlike (M P : Machine) (mirrors : M.State → P.State → Type 0)
 -- the plain thread comes to a state that mirrors this one by local turns
 abbrev pub Follows : (M P : Machine) → (M.State → P.State → Type 0) → M.State → P.State → Type 0
 Follows M P mirrors s p = (q : P.State) × Settles P p q × mirrors s q
-
-abbrev pub trap_of : Plain → Option Trap
-trap_of (plain.Trapped e) = Some e
-trap_of other = None
 
 -- the plain thread P over the plain memory Q does what M over O does, retags and protector ends left out: at the objects that
 -- answers lead to, which are valid

@@ -4,8 +4,8 @@ use Rattle.bsan_ids.specs.declared.numbers.AllocNo.{AllocNo}
 use Rattle.bsan_ids.specs.declared.numbers.ThreadNo.{ThreadNo}
 use Rattle.history.specs.Restriction as restriction
 use Rattle.history.specs.declared.entry.Entry.{Entry}
-use Rattle.run_record.specs.declared.record.RunRecord.{RunRecord}
-use Rattle.run_record.specs.Merge as record_merge
+use Rattle.history.specs.declared.record.RunRecord.{RunRecord}
+use Rattle.history.specs.Records as record_merge
 use Rattle.runs.specs.Merge.{merged}
 use Rattle.runs.specs.Parts.{of_thread, of_alloc}
 

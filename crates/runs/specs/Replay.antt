@@ -5,8 +5,8 @@ use Rattle.bsan_ids.specs.declared.numbers.AllocNo.{AllocNo}
 use Rattle.history.specs.declared.ask.Ask.{Ask}
 use Rattle.history.specs.declared.ask.Ask.TheVariants as ask
 use Rattle.bsan_ids.specs.declared.numbers.Counters.{Counters}
-use Rattle.run_record.specs.declared.log.End.{End}
-use Rattle.run_record.specs.declared.log.End.TheVariants as log_end
+use Rattle.history.specs.declared.log.End.{End}
+use Rattle.history.specs.declared.log.End.TheVariants as log_end
 use Rattle.history.specs.declared.entry.Entry.{Entry}
 use Rattle.bsan_ids.specs.declared.numbers.Limits.{Limits}
 use Rattle.history.specs.declared.entry.Plain.TheVariants as plain

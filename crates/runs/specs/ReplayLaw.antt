@@ -7,10 +7,10 @@ use Rattle.history.specs.declared.entry.Plain.TheVariants as plain
 use Rattle.history.specs.declared.entry.Request.{Request}
 use Rattle.history.specs.declared.entry.Request.TheVariants as request
 use Rattle.ir_ast.specs.declared.types.Place.{Place}
-use Rattle.run_record.specs.declared.log.AllocLog.{AllocLog}
-use Rattle.run_record.specs.declared.log.End.TheVariants as log_end
-use Rattle.run_record.specs.declared.log.ThreadLog.{ThreadLog}
-use Rattle.run_record.specs.declared.record.RunRecord.{RunRecord}
+use Rattle.history.specs.declared.log.AllocLog.{AllocLog}
+use Rattle.history.specs.declared.log.End.TheVariants as log_end
+use Rattle.history.specs.declared.log.ThreadLog.{ThreadLog}
+use Rattle.history.specs.declared.record.RunRecord.{RunRecord}
 use Rattle.runs.specs.Parts.{of_alloc}
 use Rattle.runs.specs.Machine.{Machine, Memory}
 use Rattle.runs.specs.Interleaving.{first_world, Allowed, Event, Interleaves, last_world}

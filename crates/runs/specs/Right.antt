@@ -2,12 +2,12 @@
 use Rattle.std.specs.Prelude.{◌≡◌, ℕ, zero, suc, ◌+◌, ◌<◌, ◌≤◌, ◌⊎◌, ◌==◌, ◌≢◌, Bool, if◌then◌else◌, List, [], ◌∷◌, ◌++◌, length, Some, None, All, nat_eq, count_by, true, false, IsPermutation}
 use Rattle.std.specs.declared.option.Option.{Option}
 use Rattle.std.specs.List.{flat_map, IsDistinct}
-use Rattle.run_record.specs.declared.log.AllocLog.{AllocLog}
+use Rattle.history.specs.declared.log.AllocLog.{AllocLog}
 use Rattle.history.specs.declared.ask.Ask.{Ask}
 use Rattle.history.specs.declared.ask.Ask.TheVariants as ask
 use Rattle.bsan_ids.specs.declared.numbers.Counters.{Counters}
-use Rattle.run_record.specs.declared.log.End.{End}
-use Rattle.run_record.specs.declared.log.End.TheVariants as log_end
+use Rattle.history.specs.declared.log.End.{End}
+use Rattle.history.specs.declared.log.End.TheVariants as log_end
 use Rattle.history.specs.declared.entry.Entry.{Entry}
 use Rattle.history.specs.Histories as histories
 use Rattle.bsan_ids.specs.declared.numbers.Limits.{Limits}
@@ -17,8 +17,8 @@ use Rattle.history.specs.declared.entry.Plain.TheVariants as plain
 use Rattle.bsan_ids.specs.declared.numbers.Prov.{Prov}
 use Rattle.history.specs.declared.entry.Request.{Request}
 use Rattle.history.specs.declared.entry.Request.TheVariants as request
-use Rattle.run_record.specs.declared.record.RunRecord.{RunRecord}
-use Rattle.run_record.specs.declared.log.ThreadLog.{ThreadLog}
+use Rattle.history.specs.declared.record.RunRecord.{RunRecord}
+use Rattle.history.specs.declared.log.ThreadLog.{ThreadLog}
 use Rattle.bsan_ids.specs.declared.numbers.ThreadNo.{ThreadNo}
 use Rattle.history.specs.declared.trap.Trap.{Trap}
 use Rattle.history.specs.declared.trap.Trap.TheVariants as trap

@@ -3,9 +3,9 @@ use Rattle.std.specs.Prelude.{List}
 use Rattle.bsan_ids.specs.declared.numbers.Limits.{Limits}
 use Rattle.history.specs.declared.ask.Ask.{Ask}
 use Rattle.history.specs.declared.trap.Trap.TheVariants as trap
-use Rattle.run_record.specs.declared.log.End.{End}
-use Rattle.run_record.specs.declared.log.End.TheVariants as log_end
-use Rattle.run_record.specs.declared.log.ThreadLog.{ThreadLog}
+use Rattle.history.specs.declared.log.End.{End}
+use Rattle.history.specs.declared.log.End.TheVariants as log_end
+use Rattle.history.specs.declared.log.ThreadLog.{ThreadLog}
 use Rattle.runs.specs.Machine.{Machine, Settles}
 use Rattle.runs.specs.Threads.{AsksMake, AsksSpawn}
 use Rattle.runs.specs.Right.{HasLog, HasRuns}

@@ -3,11 +3,11 @@ use Rattle.std.specs.Prelude.{◌≡◌, ℕ, ◌<◌, ◌≤◌, ◌⊎◌, ◌
 use Rattle.std.specs.List.{IsDistinct}
 use Rattle.bsan_ids.specs.declared.numbers.Counters.{Counters}
 use Rattle.history.specs.declared.entry.Entry.{Entry}
-use Rattle.run_record.specs.declared.log.AllocLog.{AllocLog}
-use Rattle.run_record.specs.declared.log.End.{End}
+use Rattle.history.specs.declared.log.AllocLog.{AllocLog}
+use Rattle.history.specs.declared.log.End.{End}
 use Rattle.bsan_ids.specs.declared.numbers.Limits.{Limits}
-use Rattle.run_record.specs.declared.log.ThreadLog.{ThreadLog}
-use Rattle.run_record.specs.declared.record.RunRecord.{RunRecord}
+use Rattle.history.specs.declared.log.ThreadLog.{ThreadLog}
+use Rattle.history.specs.declared.record.RunRecord.{RunRecord}
 use Rattle.runs.specs.Parts.{of_thread, of_alloc}
 use Rattle.runs.specs.Machine.{Machine, Memory}
 use Rattle.runs.specs.Interleaving.{first_world, Allowed, Interleaves, Legal}

@@ -31,13 +31,15 @@ use Rattle.ir_ast.specs.declared.program.Val.TheVariants.{Num}
 use Rattle.ir_ast.specs.declared.types.Place.TheVariants.{Stack}
 use Rattle.ir_ast.specs.declared.types.Ty.TheVariants.{Int}
 use Rattle.ir_ast.specs.declared.types.Width.TheVariants.{W64}
-use Rattle.runs.specs.Erasure.{trap_of}
+use Rattle.history.specs.Replies.{trap_of}
+use Rattle.thread_parts.specs.Words.{plain_arg, number_in}
 use Rattle.runs.specs.Machine.{Machine}
 use Rattle.runs.specs.Parts.{Answers, child_of, of_alloc}
 use Rattle.runs.specs.Threads.{StartsAs}
 use Rattle.runs.proofs.Feeding.{feeds_turn, feeds_entry}
-use Rattle.source_sem.specs.Env.{Env, plain_arg, value_in, with_value, operand, put_some, arg_of}
-use Rattle.source_sem.specs.Parts.{Part, Gives, Steps, Retags, Makes, Accesses, Loads, Stores, Made, part_ask, number_in, make_part, make_by}
+use Rattle.source_sem.specs.Env.{Env, value_in, with_value, operand, put_some, arg_of}
+use Rattle.thread_parts.specs.Parts.{Part, Gives, Steps, Retags, Makes, Accesses, Loads, Stores, part_ask, make_part, make_by}
+use Rattle.thread_parts.specs.Owned.{Made}
 use Rattle.source_sem.specs.Source.{Source, Frame, source, op_part, source_ask, source_turn, source_answer, source_fits, source_site, source_begins, source_start, source_child, part_turn, part_answer, frames_answer, counted, advance}
 use Rattle.small_run.specs.Right.{setting, main_start}
 use Rattle.small_run.specs.Threads.{owning, standing, leaving, ended, ComesTo, made_at}

@@ -5,7 +5,8 @@ use Rattle.std.specs.List.{position_or_len}
 use Rattle.std.specs.Str.{bytes_eq}
 use Rattle.std.proofs.lemmas.Bool.{lt-ltb}
 use Rattle.history.specs.declared.ask.Arg.{Arg}
-use Rattle.source_sem.specs.Env.{blank, value_in, with_value}
+use Rattle.thread_parts.specs.Words.{blank}
+use Rattle.source_sem.specs.Env.{value_in, with_value}
 use Rattle.small_run.specs.Registers.{bound}
 use Rattle.small_run.specs.declared.registers.Register.{Register}
 

@@ -16,10 +16,10 @@ use Rattle.ir_ast.specs.declared.types.Ty.{Ty}
 use Rattle.ir_ast.specs.declared.types.Ty.TheVariants.{Int, Ptr}
 use Rattle.ir_ast.specs.declared.types.Width.TheVariants.{W8, W16, W32, W64}
 use Rattle.report.specs.Report.{IsReportable}
-use Rattle.run_record.specs.declared.log.End.TheVariants as log_end
-use Rattle.run_record.specs.declared.record.RunRecord.{RunRecord}
+use Rattle.history.specs.declared.log.End.TheVariants as log_end
+use Rattle.history.specs.declared.record.RunRecord.{RunRecord}
 use Rattle.source_sem.specs.Env.{arg_of, bind}
-use Rattle.source_sem.specs.Parts.{nothing_owned}
+use Rattle.thread_parts.specs.Owned.{nothing_owned}
 use Rattle.source_sem.specs.Source.{Source, first_insts, first_term, entering, to_retag}
 use Rattle.small_run.specs.declared.run.Outcome.{Outcome}
 use Rattle.small_run.specs.declared.steps.Halt.TheVariants as halt

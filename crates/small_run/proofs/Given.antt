@@ -20,10 +20,10 @@ use Rattle.history.specs.Objects.{Object, Made, answer, data_answer, data_unless
 use Rattle.history.specs.Histories.{replay, is_make}
 use Rattle.ir_ast.specs.declared.types.Ty.TheVariants.{Int}
 use Rattle.ir_ast.specs.declared.types.Width.TheVariants.{W64}
-use Rattle.runs.specs.Erasure.{trap_of}
+use Rattle.history.specs.Replies.{trap_of}
+use Rattle.thread_parts.specs.Words.{number_in}
 use Rattle.runs.specs.Right.{made_by, spawned_by_reply}
-use Rattle.source_sem.specs.Parts.{number_in}
-use Rattle.source_sem.specs.Source.{ValueIn, IsDone, IsTrap, MadeAt, RetaggedAt}
+use Rattle.thread_parts.specs.Fits.{ValueIn, IsDone, IsTrap, MadeAt, RetaggedAt}
 use Rattle.small_run.specs.Goes.{DrewNone}
 
 -- what an allocation answers to a data request: a trap, or what is done where there is none

@@ -24,9 +24,10 @@ use Rattle.ir_ast.specs.declared.program.Val.TheVariants.{Num}
 use Rattle.ir_ast.specs.declared.types.Place.TheVariants.{Stack}
 use Rattle.ir_ast.specs.declared.types.Ty.TheVariants.{Int}
 use Rattle.ir_ast.specs.declared.types.Width.TheVariants.{W64}
-use Rattle.source_sem.specs.Env.{Env, plain_arg, value_in, with_value, operand}
+use Rattle.thread_parts.specs.Words.{plain_arg, number_in}
+use Rattle.source_sem.specs.Env.{Env, value_in, with_value, operand}
 use Rattle.source_sem.specs.Source.{Source}
-use Rattle.source_sem.specs.Parts.{number_in, Made}
+use Rattle.thread_parts.specs.Owned.{Made}
 use Rattle.small_run.specs.declared.steps.Halt.{Halt}
 use Rattle.small_run.specs.declared.steps.Halt.TheVariants as halt
 use Rattle.std.specs.declared.result.Result.{Result}

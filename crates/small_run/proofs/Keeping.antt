@@ -12,8 +12,8 @@ use Rattle.history.specs.declared.entry.Request.TheVariants as request
 use Rattle.history.specs.Objects.{Object, unmade, answer}
 use Rattle.history.specs.Histories.{replay, fits}
 use Rattle.history.specs.Histories as histories
-use Rattle.run_record.specs.declared.log.AllocLog.{AllocLog}
-use Rattle.run_record.specs.Merge.{violates, is_violation}
+use Rattle.history.specs.declared.log.AllocLog.{AllocLog}
+use Rattle.history.specs.Records.{violates, is_violation}
 use Rattle.history.specs.declared.entry.Reply.{Reply}
 use Rattle.ir_ast.specs.declared.types.Place.TheVariants.{Stack}
 use Rattle.std.proofs.lemmas.List.{length-set, append-nil, length-map, map-append, map-set}
@@ -23,7 +23,7 @@ use Rattle.std.specs.Option.{option_map}
 use Rattle.bsan_ids.specs.declared.numbers.Stamp.{Stamp}
 use Rattle.alloc_state.specs.Log.{Log}
 use Rattle.history.specs.declared.ask.Arg.{Arg}
-use Rattle.runs.specs.Erasure.{trap_of}
+use Rattle.history.specs.Replies.{trap_of}
 use Rattle.small_run.specs.declared.steps.Halt.{Halt}
 use Rattle.small_run.specs.declared.steps.Halt.TheVariants as halt
 use Rattle.report.specs.Violation.{has_deed}

@@ -16,7 +16,7 @@ use Rattle.ir_ast.specs.declared.program.TypedVal.{TypedVal}
 use Rattle.runs.specs.Parts.{Answers}
 use Rattle.history.specs.declared.ask.Ask.TheVariants as ask
 use Rattle.source_sem.specs.Env.{arg_of}
-use Rattle.source_sem.specs.Parts.{Made}
+use Rattle.thread_parts.specs.Owned.{Made}
 use Rattle.small_run.specs.declared.steps.Halt.{Halt}
 use Rattle.small_run.specs.declared.steps.Halt.TheVariants as halt
 use Rattle.small_run.specs.declared.thread.Thread.{Thread}

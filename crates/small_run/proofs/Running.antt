@@ -16,7 +16,7 @@ use Rattle.ir_ast.specs.declared.program.Named.{Named}
 use Rattle.ir_ast.specs.declared.program.Op.{Op}
 use Rattle.ir_ast.specs.declared.program.Op.TheVariants as op
 use Rattle.ir_ast.specs.declared.program.Program.{Program}
-use Rattle.run_record.specs.declared.log.End.TheVariants as log_end
+use Rattle.history.specs.declared.log.End.TheVariants as log_end
 use Rattle.source_sem.specs.Env.{Env, value_in}
 use Rattle.source_sem.proofs.Writes.{same_name, value_in-with_value}
 use Rattle.small_run.specs.declared.thread.Thread.{Thread}

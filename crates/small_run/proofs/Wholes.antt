@@ -16,16 +16,16 @@ use Rattle.history.specs.declared.entry.Plain.{Plain}
 use Rattle.history.specs.declared.entry.Request.{Request}
 use Rattle.history.specs.declared.entry.Request.TheVariants as request
 use Rattle.history.specs.Histories.{fits}
-use Rattle.history.specs.Merge.{put_by_stamp}
+use Rattle.history.specs.Merge.{put_by_stamp, stamp_of}
 use Rattle.history.specs.Objects.{unmade}
 use Rattle.ir_ast.specs.declared.program.Program.{Program}
 use Rattle.report.specs.Report.{IsReportable}
 use Rattle.report.specs.Violation.{IsDescribable}
-use Rattle.run_record.specs.declared.log.AllocLog.{AllocLog}
-use Rattle.run_record.specs.declared.log.End.{End}
-use Rattle.run_record.specs.declared.log.End.TheVariants as log_end
-use Rattle.run_record.specs.declared.log.ThreadLog.{ThreadLog}
-use Rattle.run_record.specs.Merge.{stamp_of, violates}
+use Rattle.history.specs.declared.log.AllocLog.{AllocLog}
+use Rattle.history.specs.declared.log.End.{End}
+use Rattle.history.specs.declared.log.End.TheVariants as log_end
+use Rattle.history.specs.declared.log.ThreadLog.{ThreadLog}
+use Rattle.history.specs.Records.{violates}
 use Rattle.runs.specs.Parts.{of_thread, of_alloc, names, child_of, spawned_by}
 use Rattle.runs.specs.Stamps.{Has, RisesFrom}
 use Rattle.runs.specs.Merge.{merged, merged_with, IsOwn, MayMerge, no_logs, one_more, IsMerge}

@@ -12,8 +12,8 @@ use Rattle.ir_ast.specs.declared.program.Named.{Named}
 use Rattle.ir_ast.specs.declared.program.Op.{Op}
 use Rattle.ir_ast.specs.declared.program.Op.TheVariants.{Load, Store, Retag}
 use Rattle.ir_ast.specs.declared.program.Program.{Program}
-use Rattle.run_record.specs.declared.log.End.{End}
-use Rattle.run_record.specs.declared.log.End.TheVariants as log_end
+use Rattle.history.specs.declared.log.End.{End}
+use Rattle.history.specs.declared.log.End.TheVariants as log_end
 use Rattle.runs.specs.Right.{alloc_limit_of, thread_limit_of}
 use Rattle.source_sem.specs.Env.{Env, value_in, with_value}
 use Rattle.source_sem.specs.Source.{Source}

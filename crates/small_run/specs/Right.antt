@@ -2,7 +2,7 @@
 use Rattle.std.specs.Prelude.{[], true}
 use Rattle.bsan_ids.specs.declared.numbers.Limits.{Limits}
 use Rattle.ir_ast.specs.declared.program.Program.{Program}
-use Rattle.run_record.specs.declared.record.RunRecord.{RunRecord}
+use Rattle.history.specs.declared.record.RunRecord.{RunRecord}
 use Rattle.runs.specs.Interleaving.{Allowed}
 use Rattle.runs.specs.Objects.{objects}
 use Rattle.runs.specs.Right.{IsRight}

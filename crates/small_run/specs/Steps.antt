@@ -14,16 +14,16 @@ use Rattle.history.specs.Objects.{Object, unmade, answer}
 use Rattle.history.specs.Histories.{replay, fits}
 use Rattle.ir_ast.specs.declared.types.Place.TheVariants.{Stack}
 use Rattle.alloc_state.specs.Log.{Log}
-use Rattle.run_record.specs.declared.log.AllocLog.{AllocLog}
+use Rattle.history.specs.declared.log.AllocLog.{AllocLog}
 use Rattle.report.specs.Violation.{has_deed}
-use Rattle.run_record.specs.Merge.{violates}
+use Rattle.history.specs.Records.{violates}
 use Rattle.runs.specs.Interleaving.{Legal}
 use Rattle.runs.specs.Objects.{objects}
 use Rattle.runs.specs.Parts.{of_alloc}
 use Rattle.runs.specs.Right.{Numbered, made_by, spawned_by_reply, counting_from, is_make}
 use Rattle.runs.specs.Stamps.{Has}
-use Rattle.runs.specs.Erasure.{trap_of}
-use Rattle.source_sem.specs.Parts.{number_in}
+use Rattle.history.specs.Replies.{trap_of}
+use Rattle.thread_parts.specs.Words.{number_in}
 use Rattle.small_run.specs.declared.steps.Halt.{Halt}
 use Rattle.small_run.specs.declared.steps.Halt.TheVariants as halt
 

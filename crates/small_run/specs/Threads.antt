@@ -11,7 +11,7 @@ use Rattle.ir_ast.specs.declared.program.Jump.{Jump}
 use Rattle.ir_ast.specs.declared.program.Program.{Program}
 use Rattle.runs.specs.Threads.{Feeds}
 use Rattle.source_sem.specs.Env.{Env}
-use Rattle.source_sem.specs.Parts.{Owned, Made}
+use Rattle.thread_parts.specs.Owned.{Owned, Made}
 use Rattle.source_sem.specs.Source.{Source, Ready, Leaving, source}
 use Rattle.small_run.specs.Right.{setting, default_limits, main_start}
 

@@ -1,7 +1,7 @@
 //! The run of a small program.
 ghost use Rattle.std.specs.Prelude.{◌≡◌, ◌+◌, ◌<◌, [], IfOk, OnOk, OnErr, length};
 ghost use Rattle.report.specs.Report.{IsReportable};
-ghost use Rattle.run_record.specs.Empty.{empty_record};
+ghost use Rattle.history.specs.Records.{empty_record};
 ghost use Rattle.small_run.specs.Small.{IsSmall, IsSmallBlock, AreInOrder};
 ghost use Rattle.small_run.specs.Right.{IsRightFor};
 ghost use Rattle.small_run.specs.Threads.{ComesTo, standing};

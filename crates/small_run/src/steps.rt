@@ -4,7 +4,7 @@ ghost use Rattle.history.specs.Histories.{fits, is_make};
 ghost use Rattle.history.specs.declared.entry.Request.TheVariants as request;
 ghost use Rattle.alloc_state.specs.Log.{has_make, HasBytes};
 ghost use Rattle.ir_ast.specs.declared.types.Place.TheVariants.{Stack};
-ghost use Rattle.source_sem.specs.Parts as spec_parts;
+ghost use Rattle.thread_parts.specs.Parts as spec_parts;
 ghost use Rattle.small_run.specs.declared.steps.Halt.TheVariants.{NoMemory};
 ghost use Rattle.small_run.specs.Steps.{IsStep, Takes, AreKept, alloc_log, longer, entry_on, with_make, next_root};
 

@@ -5,7 +5,8 @@ use ir_ast::{
     Block, Function, Inst, Jump, Named, Op, Place, Program, ResultTy, Term, Ty, TypedVal, Val,
     Width,
 };
-use perm_table::{Perm, RetagKind, Violation};
+use eager_tree::Violation;
+use perm_table::{Perm, RetagKind};
 use run_record::{End, RunRecord};
 use std::alloc::Global;
 use std::test::Fail;

@@ -19,7 +19,7 @@ use Rattle.history.specs.declared.trap.Trap.{Trap}
 use Rattle.history.specs.Histories.{fits, Replies, is_make}
 use Rattle.history.specs.Memory.{trap_in}
 use Rattle.history.specs.Objects.{Object, Made, data_answer, data_unless, retag_answer, end_answer, answer}
-use Rattle.run_record.specs.declared.log.ThreadLog.{ThreadLog}
+use Rattle.history.specs.declared.log.ThreadLog.{ThreadLog}
 use Rattle.runs.specs.Interleaving.{Legal, MakesUnmade}
 use Rattle.runs.specs.Machine.{TurnsWithin}
 use Rattle.runs.specs.Merge.{entries_of}

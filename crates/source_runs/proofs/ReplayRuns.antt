@@ -5,8 +5,8 @@ use Rattle.std.specs.declared.option.Option.{Option}
 use Rattle.std.proofs.lemmas.Bool.{true≢false}
 use Rattle.history.specs.declared.entry.Entry.{Entry}
 use Rattle.ir_ast.specs.declared.program.Program.{Program}
-use Rattle.run_record.specs.declared.log.End.{End}
-use Rattle.run_record.specs.declared.log.End.TheVariants as log_end
+use Rattle.history.specs.declared.log.End.{End}
+use Rattle.history.specs.declared.log.End.TheVariants as log_end
 use Rattle.runs.specs.Machine.{Machine}
 use Rattle.runs.specs.Objects.{objects}
 use Rattle.runs.specs.Replay.{Fiber, Progress, Ends, Steps, waits, Chooses, CanGoOn, picked, Picks, Plays}

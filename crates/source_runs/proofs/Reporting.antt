@@ -2,15 +2,14 @@
 use Rattle.std.proofs.Common.{◌≡◌, ℕ, ◌<◌, ◌≤◌, ◌⊎◌, true, false, List, [], ◌∷◌, refl, sym, ◌∙◌, ap, subst, inl, inr, arith, map, nat_eq}
 use Rattle.std.specs.Prelude.{All, IsTrue, IsSome, ◌==◌, if◌then◌else◌}
 use Rattle.std.specs.List.{flat_map, IsDistinct, AllByRecursion}
-use Rattle.std.proofs.lemmas.Bool.Decides.{eqb_tells}
+use Rattle.std.proofs.lemmas.Bool.Decides.{eqb_tells, nat_tests}
 use Rattle.std.proofs.lemmas.List.Elements.{All-from_recursion, recursion_from_All}
 use Rattle.std.proofs.lemmas.List.Sorted.{IsPermutation-sym, IsPermutation-map}
 use Rattle.std.proofs.lemmas.Map.Keys.{IsDistinct-IsPermutation}
-use Rattle.std.proofs.lemmas.Bool.Decides.{nat_tests}
 use Rattle.bsan_ids.specs.declared.numbers.AllocNo.{AllocNo}
 use Rattle.std.specs.declared.option.Option.{Option}
 use Rattle.history.specs.Histories.{IsHistory, fits}
-use Rattle.history.specs.Merge.{by_stamp}
+use Rattle.history.specs.Merge.{by_stamp, stamp_of}
 use Rattle.history.proofs.Distinct.{by_stamp_moves}
 use Rattle.history.specs.Objects.{answer}
 use Rattle.history.specs.declared.entry.Entry.{Entry}
@@ -18,8 +17,8 @@ use Rattle.history.specs.declared.entry.Reply.{Reply}
 use Rattle.history.specs.declared.entry.Request.{Request}
 use Rattle.history.specs.declared.entry.Request.TheVariants as request
 use Rattle.report.specs.Violation.{IsDescribable, has_deed}
-use Rattle.run_record.specs.Merge.{stamp_of, thread_entries, violates, is_violation}
-use Rattle.run_record.specs.declared.log.AllocLog.{AllocLog}
+use Rattle.history.specs.Records.{thread_entries, violates, is_violation}
+use Rattle.history.specs.declared.log.AllocLog.{AllocLog}
 use Rattle.runs.specs.Interleaving.{Legal}
 use Rattle.runs.specs.Merge.{merged, entries_of}
 use Rattle.runs.specs.Objects.{objects}

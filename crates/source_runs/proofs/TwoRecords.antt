@@ -21,9 +21,9 @@ use Rattle.history.specs.declared.entry.Request.{Request}
 use Rattle.history.specs.declared.entry.Request.TheVariants as request
 use Rattle.history.specs.declared.entry.Verdict.{Verdict}
 use Rattle.history.specs.declared.entry.Verdict.TheVariants as verdict
-use Rattle.run_record.specs.declared.log.AllocLog.{AllocLog}
-use Rattle.run_record.specs.declared.log.End.TheVariants as log_end
-use Rattle.run_record.specs.declared.log.ThreadLog.{ThreadLog}
+use Rattle.history.specs.declared.log.AllocLog.{AllocLog}
+use Rattle.history.specs.declared.log.End.TheVariants as log_end
+use Rattle.history.specs.declared.log.ThreadLog.{ThreadLog}
 use Rattle.runs.specs.Parts.{clean, of_thread, of_alloc, names, child_of}
 use Rattle.runs.specs.Machine.{TurnsTo}
 use Rattle.runs.specs.Threads.{IsThreadRun}

@@ -13,7 +13,7 @@ use Rattle.runs.specs.Objects.{objects}
 use Rattle.runs.specs.PlainObjects.{plain_objects}
 use Rattle.runs.specs.Threads.{AsksMake, AsksSpawn}
 use Rattle.source_sem.specs.Source.{Setting, Source, source, source_ask, source_start, plain_setting}
-use Rattle.run_record.specs.declared.record.RunRecord.{RunRecord}
+use Rattle.history.specs.declared.record.RunRecord.{RunRecord}
 use Rattle.ir_ast.specs.declared.program.Program.{Program}
 use Rattle.source_runs.specs.Setting.{allowed, IsRightFor, IsRightRecord}
 

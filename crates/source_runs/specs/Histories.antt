@@ -3,7 +3,7 @@ use Rattle.std.specs.Prelude.{ℕ, ◌<◌, ◌≤◌}
 use Rattle.bsan_ids.specs.declared.numbers.Limits.{Limits}
 use Rattle.history.specs.Histories.{IsHistory}
 use Rattle.ir_ast.specs.declared.hosts.HostTable.{HostTable}
-use Rattle.run_record.specs.declared.record.RunRecord.{RunRecord}
+use Rattle.history.specs.declared.record.RunRecord.{RunRecord}
 use Rattle.runs.specs.Objects.{objects}
 use Rattle.runs.specs.Right.{IsRight, history_of}
 use Rattle.source_sem.specs.Source.{Setting, source}

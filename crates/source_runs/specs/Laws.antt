@@ -6,9 +6,9 @@ use Rattle.history.specs.declared.entry.Entry.{Entry}
 use Rattle.bsan_ids.specs.declared.numbers.Limits.{Limits}
 use Rattle.ir_ast.specs.declared.hosts.HostTable.{HostTable}
 use Rattle.ir_ast.specs.declared.program.Program.{Program}
-use Rattle.run_record.specs.declared.log.AllocLog.{AllocLog}
-use Rattle.run_record.specs.declared.log.ThreadLog.{ThreadLog}
-use Rattle.run_record.specs.declared.record.RunRecord.{RunRecord}
+use Rattle.history.specs.declared.log.AllocLog.{AllocLog}
+use Rattle.history.specs.declared.log.ThreadLog.{ThreadLog}
+use Rattle.history.specs.declared.record.RunRecord.{RunRecord}
 use Rattle.runs.specs.Interleaving.{World, Interleaves}
 use Rattle.runs.specs.Objects.{objects}
 use Rattle.runs.specs.Replay.{Progress, IsReplay}

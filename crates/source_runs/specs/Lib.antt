@@ -6,3 +6,8 @@ pub mod Sibling
 pub mod Histories
 pub mod Reportable
 pub mod Replays
+pub mod AcceptedJoins
+pub mod Allocations
+pub mod Invariant
+pub mod Typing
+pub mod Worlds

@@ -19,7 +19,7 @@ use Rattle.ir_ast.specs.declared.types.Width.TheVariants.{W64}
 use Rattle.perm_table.specs.declared.Guard.TheVariants.{Free, Strong}
 use Rattle.perm_table.specs.declared.Perm.TheVariants.{Frozen}
 use Rattle.perm_table.specs.declared.RetagKind.TheVariants.{Mut}
-use Rattle.perm_table.specs.declared.Violation.TheVariants.{Denied}
+use Rattle.eager_tree.specs.declared.violation.Violation.TheVariants.{Denied}
 use Rattle.runs.specs.Objects.{objects}
 use Rattle.runs.specs.Replay.{Progress, IsReplay}
 use Rattle.runs.specs.ReplayLaw.{first_progress}

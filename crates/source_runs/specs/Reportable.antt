@@ -4,7 +4,7 @@ use Rattle.bsan_ids.specs.declared.numbers.Limits.{Limits}
 use Rattle.ir_ast.specs.declared.hosts.HostTable.{HostTable}
 use Rattle.ir_ast.specs.declared.program.Program.{Program}
 use Rattle.report.specs.Report.{IsReportable}
-use Rattle.run_record.specs.declared.record.RunRecord.{RunRecord}
+use Rattle.history.specs.declared.record.RunRecord.{RunRecord}
 use Rattle.source_runs.specs.Setting.{IsRightFor}
 
 -- no stamp stands twice in it, and each violation can be described

@@ -5,7 +5,7 @@ use Rattle.bsan_ids.specs.declared.numbers.Prov.{Prov}
 use Rattle.perm_table.specs.declared.Guard.TheVariants.{Free, Strong}
 use Rattle.perm_table.specs.declared.Perm.TheVariants.{Disabled}
 use Rattle.perm_table.specs.declared.RetagKind.TheVariants.{Mut}
-use Rattle.perm_table.specs.declared.Violation.TheVariants.{Denied}
+use Rattle.eager_tree.specs.declared.violation.Violation.TheVariants.{Denied}
 use Rattle.ir_ast.specs.declared.hosts.HostTable.{HostTable}
 use Rattle.ir_ast.specs.declared.types.Place.TheVariants.{Stack}
 use Rattle.ir_ast.specs.declared.types.Ty.TheVariants.{Int}

@@ -1,11 +1,40 @@
-//! What holds of all runs. The functions do nothing: each contract is a law.
+//! What holds of all runs and of all accepted programs. The functions do nothing: each contract is a law.
+ghost use Rattle.source_runs.specs.AcceptedJoins.{AcceptedProgramsJoin};
+ghost use Rattle.source_runs.specs.Allocations.{AllocationLaw};
 ghost use Rattle.source_runs.specs.ErasureLaw.{ErasureIsARun, RightRecordsErase};
 ghost use Rattle.source_runs.specs.Histories.{HistoriesAreLegal};
+ghost use Rattle.source_runs.specs.Invariant.{AcceptedProgramsKeepWords};
 ghost use Rattle.source_runs.specs.Laws.{LogsAreOneRun, PromisesAreOneRun, BeginningsAreRuns, LogsTellStates, ReplaysAreRight, WholeRunsLeaveRightRecords, ThreadsDiffer};
 ghost use Rattle.source_runs.specs.Replays.{ReplaysByExample};
 ghost use Rattle.source_runs.specs.Reportable.{RightRecordsAreReportable};
 ghost use Rattle.source_runs.specs.Sibling.{IsErasedRun};
 ghost use Rattle.source_runs.specs.TwoThreads.{IsMet, EachIsNeeded};
+ghost use Rattle.source_runs.specs.Worlds.{RepliesAlwaysFit, ReplaysLeaveRightRecords};
+
+/// Where no rule is broken, each thread joins only children that it has started.
+pub fn accepted_programs_join()
+    ensures { AcceptedProgramsJoin }
+{}
+
+/// Where no rule is broken, each register of each frame holds a word of its type, with a provenance only where it
+/// is a pointer; a handle holds the number of a thread that is said to run its function; each child's arguments fit
+/// its parameters; and what a thread returns fits its function's result.
+pub fn accepted_programs_keep_words()
+    ensures { AcceptedProgramsKeepWords }
+{}
+
+/// An allocation's bytes are below 256, so that what it answers is a word of the type that is asked for, and a copied
+/// piece has as many bytes as were asked.
+pub fn allocations_answer_words()
+    ensures { AllocationLaw }
+{}
+
+/// In every run of an accepted program each thread is given a reply that fits what it asked; so a replay of it leaves a
+/// right record.
+pub fn replies_always_fit()
+    ensures fits { RepliesAlwaysFit }
+    ensures replays { ReplaysLeaveRightRecords }
+{}
 
 /// Separate logs are one run: the threads' logs, the allocations' histories and the order of
 /// their stamps say all of it. A thread's last state is told by its log and its count of

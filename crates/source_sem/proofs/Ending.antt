@@ -16,7 +16,9 @@ use Rattle.ir_ast.specs.declared.program.Jump.TheVariants as jump
 use Rattle.runs.specs.Machine.{Settles}
 use Rattle.runs.specs.Erasure.{erased_end}
 use Rattle.source_sem.specs.Env.{Env, value_in}
-use Rattle.source_sem.specs.Parts.{Part, Step, Gives, Fails, Steps, Retags, Copies, Calls, Joins, Makes, Accesses, Prints, Hosts, Spawns, part_ask, step_ask, copy_ask_by, retag_ask, Made, Owned, release_by}
+use Rattle.thread_parts.specs.Parts.{Part, Step, Gives, Fails, Steps, Retags, Copies, Calls, Joins, Makes, Accesses, Prints, Hosts, Spawns, part_ask, step_ask, retag_ask}
+use Rattle.thread_parts.specs.Copies.{copy_ask_by}
+use Rattle.thread_parts.specs.Owned.{Made, Owned, release_by}
 use Rattle.ir_ast.specs.Attributes.{guard_of}
 use Rattle.source_sem.specs.Source.{Setting, Source, Frame, Doing, Ready, Entering, Copying, Waiting, Retagging, Leaving, op_part, source, source_ask, plain_setting, frames_ask, doing_ask, ready_ask, term_ask, entry_ask, release_or, nowhere}
 use Rattle.source_sem.specs.Plain.{Reads, erased_owned, erased_ask, plain_part, CallersMirror, plain_rest, TopMirrors, HasAttr, IsBeside, MirrorsBy, ThreadErases}

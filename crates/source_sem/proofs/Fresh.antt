@@ -7,7 +7,7 @@ use Rattle.ir_ast.specs.declared.program.Jump.TheVariants as jump
 use Rattle.ir_ast.specs.declared.program.Named.{Named}
 use Rattle.history.specs.declared.ask.Ask.TheVariants as ask
 use Rattle.perm_table.specs.declared.Guard.TheVariants.{Free}
-use Rattle.source_sem.specs.Parts.{Part, Gives, Fails, Steps, Retags, Copies, Calls, Joins, retag_ask}
+use Rattle.thread_parts.specs.Parts.{Part, Gives, Fails, Steps, Retags, Copies, Calls, Joins, retag_ask}
 use Rattle.source_sem.specs.Source.{Setting, Source, Frame, Doing, Ready, Entering, Copying, Waiting, Retagging, Leaving, frames_ask, doing_ask, frames_begin, is_ready, nowhere, op_part, return_to, returned_value, term_turn, part_turn, ready_turn, frames_turn, counted, TurnsAreFresh, TurnsCount}
 use Rattle.source_sem.proofs.Mirroring.{entering_steps, copying_steps, release_steps}
 

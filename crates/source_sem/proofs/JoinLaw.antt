@@ -19,11 +19,12 @@ use Rattle.ir_ast.specs.declared.program.Op.{Op}
 use Rattle.ir_ast.specs.declared.program.Op.TheVariants as op
 use Rattle.ir_ast.specs.declared.program.Param.{Param}
 use Rattle.ir_ast.specs.declared.program.Program.{Program}
-use Rattle.source_sem.specs.Env.{Env, args_of, operand, bind, arg_at, put_some}
+use Rattle.thread_parts.specs.Words.{arg_at}
+use Rattle.source_sem.specs.Env.{Env, args_of, operand, bind, put_some}
 use Rattle.ir_ast.specs.Arithmetic.{Worked, word, div_zero, shift_too_far, worked}
-use Rattle.source_sem.specs.Parts.{Part, Step, Access, Gives, Fails, Steps, Retags, Copies, Calls, Joins, Makes, Accesses, Prints, Hosts, Spawns, Loads, Stores, Modifies, Compares, Frees, Owned, part_ask, step_result, worked_part, make_by, retag_part, call_part}
+use Rattle.thread_parts.specs.Parts.{Part, Step, Access, Gives, Fails, Steps, Retags, Copies, Calls, Joins, Makes, Accesses, Prints, Hosts, Spawns, Loads, Stores, Modifies, Compares, Frees, part_ask, step_result, worked_part, make_by, retag_part, call_part, chosen}
+use Rattle.thread_parts.specs.Owned.{Owned, nothing_owned}
 use Rattle.ir_ast.specs.declared.program.Goal.{Goal}
-use Rattle.source_sem.specs.Parts.{nothing_owned, chosen}
 use Rattle.ir_ast.specs.Numbers.{block_place, number_of_block, number_of_function}
 use Rattle.source_sem.specs.Source.{part_turn, term_turn, ready_turn, term_ask, ready_ask, returned_value, at_frames, return_to, resumed, in_block, goto_in, goto, frame_of, to_retag, has_step, entering, first_insts, first_term, source_start, Setting, Source, Frame, Doing, Ready, Entering, Copying, Waiting, Retagging, Leaving, op_part, taken, resumed_by, result_step}
 use Rattle.history.specs.declared.trap.Trap.TheVariants as trap

@@ -26,27 +26,25 @@ use Rattle.ir_ast.specs.declared.program.Param.{Param}
 use Rattle.ir_ast.specs.declared.program.Program.{Program}
 use Rattle.source_sem.specs.Env.{Env, value_in, with_value, put, put_some}
 use Rattle.ir_ast.specs.Arithmetic.{Worked, word, div_zero, shift_too_far, worked}
-use Rattle.source_sem.specs.Parts.{Part, Step, Gives, Fails, Steps, Retags, Copies, Calls, Joins, Makes, Accesses, Prints, Hosts, Spawns, Owned, part_ask, step_ask, step_result, step_owned, worked_part, make_by, retag_part, copy_by, call_part, number_in, without}
+use Rattle.thread_parts.specs.Parts.{Part, Step, Gives, Fails, Steps, Retags, Copies, Calls, Joins, Makes, Accesses, Prints, Hosts, Spawns, part_ask, step_ask, step_result, worked_part, make_by, retag_part, copy_by, call_part, retag_ask}
+use Rattle.thread_parts.specs.Owned.{Owned, step_owned, without, protect, Made, with_stack, release_by, released_by}
+use Rattle.history.specs.Replies.{trap_of}
+use Rattle.thread_parts.specs.Words.{number_in}
 use Rattle.history.specs.declared.trap.Trap.{Trap}
-use Rattle.source_sem.specs.Parts.{Progress}
-use Rattle.source_sem.specs.Source.{ready_turn, term_ask, ready_ask, returned_value, at_frames, counted, part_child, insts_child, frames_child, Setting, Source, Frame, Doing, Ready, Entering, Copying, Waiting, Retagging, Leaving, op_part, result_step, joined}
-use Rattle.source_sem.proofs.Mirroring.{fr}
+use Rattle.thread_parts.specs.Copies.{Progress, copy_ask_by, untouched, copy_after, copy_done}
+use Rattle.thread_parts.specs.Fits.{SpawnedChild, ReplyFits}
+use Rattle.source_sem.specs.Source.{ready_turn, term_ask, ready_ask, returned_value, at_frames, counted, part_child, insts_child, frames_child, Setting, Source, Frame, Doing, Ready, Entering, Copying, Waiting, Retagging, Leaving, op_part, result_step, joined, entry_ask, frames_type, nowhere, leave_with, copy_on, part_answer, term_answer, ready_answer, copying_part, copying_answer, entered, doing_answer, frames_answer, doing_ask, frames_ask, release_or, copying_ask, copying_by, frames_turn, counted_if, frames_begin, is_ready}
+use Rattle.source_sem.proofs.Mirroring.{fr, entering_steps, copying_steps, release_steps}
 use Rattle.source_sem.specs.Plain.{IsWaiting}
-use Rattle.source_sem.specs.Joining.{StartsNoMain, Enters, IsLost, CallersStand, FramesStand, ThreadStands, JoinLaw, dest_defines, IsSpawnOp, Has, Holds, FunctionJoins, JoinsAccepted, Site, Placed, Waits, Retagged, DoingStands}
-use Rattle.source_sem.proofs.Joins.{join_asks, holds_more}
+use Rattle.source_sem.specs.Joining.{StartsNoMain, Enters, IsLost, CallersStand, FramesStand, ThreadStands, JoinLaw, dest_defines, IsSpawnOp, Has, Holds, FunctionJoins, JoinsAccepted, Site, Placed, Waits, Retagged, DoingStands, is_bound}
+use Rattle.source_sem.proofs.Joins.{join_asks, holds_more, or_false}
 use Rattle.runs.specs.Parts.{Answers, spawned_of, spawned_by}
-use Rattle.runs.specs.Erasure.{trap_of}
 use Rattle.perm_table.specs.declared.Guard.TheVariants.{Free}
 use Rattle.ir_ast.specs.declared.types.Place.TheVariants.{Stack, Heap}
 use Rattle.history.specs.Pieces.{Byte}
-use Rattle.source_sem.specs.Joining.{is_bound}
 use Rattle.history.specs.declared.entry.Request.TheVariants as request
 use Rattle.source_sem.proofs.Writes.{value_in-with_value, is_bound-with_value}
-use Rattle.source_sem.specs.Parts.{copy_ask_by, protect, Made, with_stack, release_by, released_by, untouched, copy_after, copy_done, retag_ask}
-use Rattle.source_sem.specs.Source.{entry_ask, frames_type, nowhere, leave_with, copy_on, part_answer, term_answer, ready_answer, copying_part, copying_answer, entered, doing_answer, frames_answer, doing_ask, frames_ask, release_or, copying_ask, copying_by, SpawnedChild, ReplyFits, frames_turn, counted_if, frames_begin, is_ready}
 use Rattle.source_sem.proofs.JoinLaw.{next_some, dest_gives, PartGives, IsSpawns, step_gives, spawn_part, resumed_stands, return_stands, entering_stands, start_stands, ready_turns, mod_same}
-use Rattle.source_sem.proofs.Mirroring.{entering_steps, copying_steps, release_steps}
-use Rattle.source_sem.proofs.Joins.{or_false}
 
 -- one more child
 

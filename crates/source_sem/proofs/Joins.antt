@@ -9,7 +9,8 @@ use Rattle.ir_ast.specs.declared.program.Inst.{Inst}
 use Rattle.ir_ast.specs.declared.program.Named.{Named}
 use Rattle.ir_ast.specs.declared.program.Op.TheVariants as op
 use Rattle.ir_ast.specs.declared.program.Param.{Param}
-use Rattle.source_sem.specs.Env.{Env, blank, value_in, with_value, bind, arg_at}
+use Rattle.thread_parts.specs.Words.{blank, arg_at}
+use Rattle.source_sem.specs.Env.{Env, value_in, with_value, bind}
 use Rattle.source_sem.specs.Joining.{params_define, dest_defines, insts_define, GoesTo, AvoidsBlock, IsUnassigned, StandsAt, IsSpawnOp, JoinsFit, is_bound, Has, Holds}
 use Rattle.source_sem.proofs.Writes.{value_in-with_value, is_bound-with_value}
 

@@ -16,9 +16,13 @@ use Rattle.ir_ast.specs.declared.program.Jump.TheVariants as jump
 use Rattle.ir_ast.specs.declared.program.Named.{Named}
 use Rattle.ir_ast.specs.declared.program.Param.{Param}
 use Rattle.runs.specs.Parts.{Answers}
-use Rattle.runs.specs.Erasure.{trap_of, StepsAlike, is_left_out, erased_entry, erased_reply, erased_plain}
-use Rattle.source_sem.specs.Env.{Env, plain_arg, put_some, value_in}
-use Rattle.source_sem.specs.Parts.{Part, Step, Gives, Fails, Steps, Retags, Copies, Calls, Joins, part_ask, Made, Owned, Progress, untouched, copy_after, copy_done, number_in, step_owned, step_started, step_result, release_ask, release_by, released_by, retag_ask}
+use Rattle.history.specs.Replies.{trap_of}
+use Rattle.thread_parts.specs.Words.{plain_arg, number_in}
+use Rattle.runs.specs.Erasure.{StepsAlike, is_left_out, erased_entry, erased_reply, erased_plain}
+use Rattle.source_sem.specs.Env.{Env, put_some, value_in}
+use Rattle.thread_parts.specs.Parts.{Part, Step, Gives, Fails, Steps, Retags, Copies, Calls, Joins, part_ask, step_started, step_result, retag_ask}
+use Rattle.thread_parts.specs.Owned.{Made, Owned, step_owned, release_ask, release_by, released_by}
+use Rattle.thread_parts.specs.Copies.{Progress, untouched, copy_after, copy_done}
 use Rattle.source_sem.specs.Source.{Setting, Source, Frame, Doing, Ready, Entering, Copying, Waiting, Retagging, Leaving, op_part, source, source_ask, source_answer, source_child, source_site, plain_setting, result_step, resumed_by, at_frames, returned_value, frames_ask, doing_ask, ready_ask, term_ask, entry_ask, entering_ask, copying_by, copying_ask, counted, counted_if, leave_with, copy_on, copied, joined, part_answer, term_answer, ready_answer, copying_part, copying_answer, doing_answer, frames_answer, frames_begin, frames_site, frames_child, release_or, nowhere}
 use Rattle.source_sem.specs.Plain.{erased_arg, Reads, erased_progress, erased_stack, erased_owned, erased_ask, erased_step, erased_option, plain_part, plain_frame, CallersMirror, plain_rest, LeavesAs, LeavingMirrors, TopMirrors, MirrorsBy, Mirrors}
 use Rattle.perm_table.specs.declared.RetagKind.{RetagKind}

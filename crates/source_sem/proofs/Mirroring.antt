@@ -26,11 +26,14 @@ use Rattle.ir_ast.specs.declared.program.Param.{Param}
 use Rattle.ir_ast.specs.declared.program.TypedVal.{TypedVal}
 use Rattle.runs.specs.Parts.{Answers}
 use Rattle.runs.specs.Machine.{Settles}
-use Rattle.runs.specs.Erasure.{trap_of, Follows, is_left_out}
+use Rattle.history.specs.Replies.{trap_of}
+use Rattle.runs.specs.Erasure.{Follows, is_left_out}
 use Rattle.source_sem.specs.Env.{Env, value_in, operand, args_of, with_value, bind, put, put_some}
 use Rattle.history.specs.Pieces.{Byte}
 use Rattle.perm_table.specs.declared.Guard.TheVariants.{Free}
-use Rattle.source_sem.specs.Parts.{Access, Loads, Stores, Modifies, Compares, Frees, access_request, protect, nothing_owned, copy_ask_by, retag_ask, Part, Step, Gives, Fails, Steps, Retags, Copies, Calls, Joins, Makes, Accesses, Prints, Hosts, Spawns, part_ask, step_ask, Made, Owned, Progress, makes_step, chosen, release_by, released_by}
+use Rattle.thread_parts.specs.Parts.{Access, Loads, Stores, Modifies, Compares, Frees, access_request, retag_ask, Part, Step, Gives, Fails, Steps, Retags, Copies, Calls, Joins, Makes, Accesses, Prints, Hosts, Spawns, part_ask, step_ask, makes_step, chosen}
+use Rattle.thread_parts.specs.Owned.{protect, nothing_owned, Made, Owned, release_by, released_by}
+use Rattle.thread_parts.specs.Copies.{copy_ask_by, Progress}
 use Rattle.ir_ast.specs.Numbers.{block_place, number_of_block, number_of_function}
 use Rattle.source_sem.specs.Source.{has_step, entering_answer, is_ready, frames_begin, copying_ask, nowhere, Setting, Source, Frame, Doing, Ready, Entering, Copying, Waiting, Retagging, Leaving, op_part, source, source_ask, source_turn, source_answer, source_start, plain_setting, in_block, goto_in, goto, entering, to_retag, frame_of, taken, result_step, resumed_by, resumed, at_frames, return_to, returned_value, frames_ask, doing_ask, ready_ask, term_ask, entry_ask, entering_ask, copying_by, part_turn, frames_turn, counted, counted_if, leave_with, leave_on, part_answer, term_answer, ready_answer, doing_answer, frames_answer, retagged, entered, part_child, insts_child, release_or}
 use Rattle.source_sem.specs.Plain.{erased_arg, erased_args, Reads, erased_stack, erased_owned, erased_option, plain_part, plain_doing, plain_frame, CallerMirrors, IsWaiting, CallersMirror, plain_rest, LeavingMirrors, TopMirrors, AllAttrs, HasAttr, IsBeside, MirrorsBy, Mirrors}

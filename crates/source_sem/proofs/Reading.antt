@@ -30,10 +30,15 @@ use Rattle.ir_ast.specs.declared.program.TypedVal.{TypedVal}
 use Rattle.ir_ast.specs.declared.program.Val.{Val}
 use Rattle.ir_ast.specs.declared.program.Val.TheVariants.{Reg, Num}
 use Rattle.runs.specs.Parts.{Answers, IsOnNumber}
-use Rattle.runs.specs.Erasure.{trap_of, erased_request, erased_entry, erased_plain, erased_reply, without_fragments}
-use Rattle.source_sem.specs.Env.{Env, blank, plain_arg, value_in, operand, arg_of, args_of, prov_at, at_width, arg_at, cut_at, with_value, bind, put_some, bits}
+use Rattle.history.specs.Replies.{trap_of}
+use Rattle.thread_parts.specs.Words.{blank, plain_arg, prov_at, at_width, arg_at, cut_at, number_at, number_in}
+use Rattle.runs.specs.Erasure.{erased_request, erased_entry, erased_plain, erased_reply, without_fragments}
+use Rattle.ir_ast.specs.Words.{bits}
+use Rattle.source_sem.specs.Env.{Env, value_in, operand, arg_of, args_of, with_value, bind, put_some}
 use Rattle.ir_ast.specs.Arithmetic.{Worked, word, div_zero, shift_too_far, worked}
-use Rattle.source_sem.specs.Parts.{Step, Access, Gives, Steps, Makes, Accesses, Prints, Hosts, Spawns, Loads, Stores, Modifies, Compares, Frees, Made, Owned, Progress, number_at, access_request, step_ask, copy_ask, copy_ask_by, copy_after, copied_of, number_in, step_owned, step_started, step_result, access_result, with_stack, moved, worked_part, binary_part, compared, chosen, cast_arg, input_arg, make_by, make_part, makes_step, retag_part, copy_by, copy_part, call_part, nth_value, host_part, join_part}
+use Rattle.thread_parts.specs.Parts.{Step, Access, Gives, Steps, Makes, Accesses, Prints, Hosts, Spawns, Loads, Stores, Modifies, Compares, Frees, access_request, step_ask, step_started, step_result, access_result, moved, worked_part, binary_part, compared, chosen, cast_arg, input_arg, make_by, make_part, makes_step, retag_part, copy_by, copy_part, call_part, nth_value, host_part, join_part}
+use Rattle.thread_parts.specs.Owned.{Made, Owned, step_owned, with_stack}
+use Rattle.thread_parts.specs.Copies.{Progress, copy_ask, copy_ask_by, copy_after, copied_of}
 use Rattle.std.specs.Prelude.{nat_lt}
 use Rattle.source_sem.proofs.Writes.{same_name, value_in-with_value}
 use Rattle.ir_ast.specs.Numbers.{function_place, place}

@@ -35,15 +35,19 @@ use Rattle.ir_ast.specs.declared.program.Named.{Named}
 use Rattle.ir_ast.specs.declared.program.Op.{Op}
 use Rattle.ir_ast.specs.declared.program.Op.TheVariants as op
 use Rattle.ir_ast.specs.declared.program.Param.{Param}
-use Rattle.ir_ast.specs.Words.{ty_bytes, modulus}
+use Rattle.ir_ast.specs.Words.{ty_bytes, modulus, bits}
 use Rattle.history.specs.declared.ask.MachineEnd.{MachineEnd}
 use Rattle.ir_ast.specs.Arithmetic.{Worked, word, div_zero, shift_too_far}
 use Rattle.runs.specs.Parts.{Answers}
-use Rattle.runs.specs.Erasure.{trap_of}
-use Rattle.source_sem.specs.Env.{Env, at_width, bits, operand}
-use Rattle.source_sem.specs.Parts.{Part, Step, Access, Gives, Fails, Steps, Retags, Copies, Calls, Joins, Makes, Accesses, Prints, Hosts, Spawns, Loads, Stores, Modifies, Compares, Frees, Made, Progress, untouched, copy_ask_by, copy_ask, copied_of, copy_after, copy_after_by, copy_done, access_request, step_ask, retag_ask, release_by, release_ask, released, number_in, part_ask, worked_part, make_by, makes_step, retag_part, copy_by, call_part}
+use Rattle.history.specs.Replies.{trap_of}
+use Rattle.thread_parts.specs.Words.{at_width, number_in}
+use Rattle.source_sem.specs.Env.{Env, operand}
+use Rattle.thread_parts.specs.Parts.{Part, Step, Access, Gives, Fails, Steps, Retags, Copies, Calls, Joins, Makes, Accesses, Prints, Hosts, Spawns, Loads, Stores, Modifies, Compares, Frees, access_request, step_ask, retag_ask, part_ask, worked_part, make_by, makes_step, retag_part, copy_by, call_part}
+use Rattle.thread_parts.specs.Owned.{Made, release_by, release_ask, released}
+use Rattle.thread_parts.specs.Copies.{Progress, untouched, copy_ask_by, copy_ask, copied_of, copy_after, copy_after_by, copy_done}
 use Rattle.ir_ast.specs.Attributes.{guard_of}
-use Rattle.source_sem.specs.Source.{Setting, Source, Frame, Doing, Ready, Entering, Copying, Waiting, Retagging, Leaving, op_part, source_start, source_begins, counted, counted_if, frames_turn, ready_turn, part_turn, term_turn, return_to, resumed, resumed_by, result_step, in_block, goto_in, has_step, to_retag, entering, frame_of, frames_answer, doing_answer, ready_answer, part_answer, term_answer, leave, joined, returned_value, entered, copy_on, copying_part, copying_answer, entering_answer, part_child, insts_child, frames_child, frames_ask, doing_ask, ready_ask, term_ask, copying_ask, copying_by, entry_ask, entering_ask, release_or, nowhere, CopiedOf, ReplyFits, frames_type}
+use Rattle.thread_parts.specs.Fits.{CopiedOf, ReplyFits}
+use Rattle.source_sem.specs.Source.{Setting, Source, Frame, Doing, Ready, Entering, Copying, Waiting, Retagging, Leaving, op_part, source_start, source_begins, counted, counted_if, frames_turn, ready_turn, part_turn, term_turn, return_to, resumed, resumed_by, result_step, in_block, goto_in, has_step, to_retag, entering, frame_of, frames_answer, doing_answer, ready_answer, part_answer, term_answer, leave, joined, returned_value, entered, copy_on, copying_part, copying_answer, entering_answer, part_child, insts_child, frames_child, frames_ask, doing_ask, ready_ask, term_ask, copying_ask, copying_by, entry_ask, entering_ask, release_or, nowhere, frames_type}
 use Rattle.source_sem.specs.Requests.{IsSized, AllSized, HalfFits, CopyGoes, CopyStands, DoingFits, TopFits, RequestLaw}
 
 -- what an instruction does ---------------------------------------------------------

@@ -23,9 +23,11 @@ use Rattle.ir_ast.specs.declared.program.Op.TheVariants as op
 use Rattle.ir_ast.specs.declared.program.Param.{Param}
 use Rattle.ir_ast.specs.Arithmetic.{Worked, word, div_zero, shift_too_far}
 use Rattle.perm_table.specs.declared.RetagKind.{RetagKind}
-use Rattle.runs.specs.Erasure.{trap_of}
+use Rattle.history.specs.Replies.{trap_of}
 use Rattle.source_sem.specs.Env.{Env}
-use Rattle.source_sem.specs.Parts.{Part, Step, Gives, Fails, Steps, Retags, Copies, Calls, Joins, Makes, Accesses, Prints, Hosts, Spawns, Made, Progress, untouched, copy_ask_by, copy_after, copy_done, step_ask, release_by, release_ask, released, part_ask, worked_part, make_by, retag_part, copy_by, call_part}
+use Rattle.thread_parts.specs.Parts.{Part, Step, Gives, Fails, Steps, Retags, Copies, Calls, Joins, Makes, Accesses, Prints, Hosts, Spawns, step_ask, part_ask, worked_part, make_by, retag_part, copy_by, call_part}
+use Rattle.thread_parts.specs.Owned.{Made, release_by, release_ask, released}
+use Rattle.thread_parts.specs.Copies.{Progress, untouched, copy_ask_by, copy_after, copy_done}
 use Rattle.source_sem.specs.Source.{Setting, Source, Frame, Doing, Ready, Entering, Copying, Waiting, Retagging, Leaving, op_part, source_begins, counted, counted_if, frames_turn, ready_turn, part_turn, term_turn, return_to, frames_answer, doing_answer, ready_answer, part_answer, term_answer, leave, returned_value, copy_on, copying_part, copying_answer, entering_answer, part_child, insts_child, frames_child, frames_ask, doing_ask, ready_ask, term_ask, copying_ask, copying_by, entry_ask, entering_ask, release_or, nowhere}
 use Rattle.runs.specs.Threads.{IsOwnTrap}
 use Rattle.source_sem.specs.Traps.{EndIsOwn, PlainIsOwn, TrapLaw}

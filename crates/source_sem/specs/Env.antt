@@ -12,13 +12,7 @@ use Rattle.ir_ast.specs.declared.program.Val.TheVariants.{Reg, Num}
 use Rattle.ir_ast.specs.declared.program.TypedVal.{TypedVal}
 use Rattle.ir_ast.specs.declared.program.Param.{Param}
 use Rattle.ir_ast.specs.declared.program.Named.{Named}
-
--- nothing was written
-abbrev pub blank : Arg
-blank = record { value = 0; prov = None }
-
-abbrev pub plain_arg : ℕ → Arg
-plain_arg n = record { value = n; prov = None }
+use Rattle.thread_parts.specs.Words.{blank, plain_arg, arg_at}
 
 -- registers by name, each once, in the order in which they were first written
 abbrev pub Env : Type 0
@@ -27,33 +21,6 @@ Env = List (List ℕ × Arg)
 abbrev pub value_in : Env → List ℕ → Arg
 value_in [] r = blank
 value_in (e ∷ env) r = if bytes_eq e.0 r then e.1 else value_in env r
-
-abbrev pub bits : Width → ℕ
-bits W8 = 8
-bits W16 = 16
-bits W32 = 32
-bits W64 = 64
-
--- a provenance, which only a pointer has
-abbrev pub prov_at : Ty → Option Prov → Option Prov
-prov_at (Int w) p = None
-prov_at Ptr p = p
-
--- a word at a type
-abbrev pub word_bits : Ty → ℕ
-word_bits (Int w) = bits w
-word_bits Ptr = 64
-
-abbrev pub at_width : Ty → ℕ → ℕ
-at_width ty n = n % 2 ^ word_bits ty
-
--- a value at a type
-abbrev pub arg_at : Ty → Arg → Arg
-arg_at ty a = record { value = a.value; prov = prov_at ty a.prov }
-
--- a value of a word's own width: the word is cut
-abbrev pub cut_at : Ty → Arg → Arg
-cut_at ty a = record { value = at_width ty a.value; prov = prov_at ty a.prov }
 
 -- an operand
 abbrev pub operand : Env → Val → Arg

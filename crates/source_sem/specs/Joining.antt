@@ -19,7 +19,7 @@ use Rattle.history.specs.declared.entry.Entry.{Entry}
 use Rattle.bsan_ids.specs.declared.numbers.ThreadNo.{ThreadNo}
 use Rattle.history.specs.declared.ask.Ask.TheVariants as ask
 use Rattle.runs.specs.Parts.{Answers, child_of}
-use Rattle.source_sem.specs.Parts.{Owned}
+use Rattle.thread_parts.specs.Owned.{Owned}
 use Rattle.source_sem.specs.Plain.{IsWaiting}
 use Rattle.ir_ast.specs.Numbers.{block_place}
 use Rattle.source_sem.specs.Source.{Setting, Source, Frame, Doing, Ready, Entering, Copying, Waiting, Retagging, Leaving, source_start, source_child, source_ask, source_turn, source_answer, source_fits}

@@ -1,5 +1,4 @@
 pub mod Env
-pub mod Parts
 pub mod Source
 pub mod Starting
 pub mod Plain

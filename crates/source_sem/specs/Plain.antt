@@ -8,15 +8,18 @@ use Rattle.ir_ast.specs.declared.program.Jump.{Jump}
 use Rattle.ir_ast.specs.declared.program.Jump.TheVariants as jump
 use Rattle.history.specs.declared.ask.Ask.{Ask}
 use Rattle.history.specs.declared.ask.Ask.TheVariants as ask
-use Rattle.runs.specs.Erasure.{trap_of, without_fragments, erased_end, erased_request}
-use Rattle.source_sem.specs.Env.{Env, value_in, plain_arg}
+use Rattle.history.specs.Replies.{trap_of}
+use Rattle.thread_parts.specs.Words.{plain_arg}
+use Rattle.runs.specs.Erasure.{without_fragments, erased_end, erased_request, Follows, StepsAlike, is_left_out}
+use Rattle.source_sem.specs.Env.{Env, value_in}
 use Rattle.ir_ast.specs.declared.program.Param.{Param}
-use Rattle.source_sem.specs.Parts.{release_ask, Part, Step, Access, Gives, Fails, Steps, Retags, Copies, Calls, Joins, Accesses, Spawns, Stores, Made, Owned, Progress}
+use Rattle.thread_parts.specs.Owned.{release_ask, Made, Owned}
+use Rattle.thread_parts.specs.Parts.{Part, Step, Access, Gives, Fails, Steps, Retags, Copies, Calls, Joins, Accesses, Spawns, Stores}
+use Rattle.thread_parts.specs.Copies.{Progress}
 use Rattle.history.specs.declared.entry.Entry.{Entry}
 use Rattle.history.specs.declared.ask.MachineEnd.{MachineEnd}
 use Rattle.runs.specs.Parts.{Answers}
 use Rattle.runs.specs.Machine.{Settles}
-use Rattle.runs.specs.Erasure.{Follows, StepsAlike, is_left_out}
 use Rattle.source_sem.specs.Source.{source, source_start, plain_setting, Setting, Source, Frame, Doing, Ready, Entering, Copying, Waiting, Retagging, Leaving, return_to, returned_value}
 
 abbrev pub erased_arg : Arg → Arg

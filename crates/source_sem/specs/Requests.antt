@@ -13,7 +13,8 @@ use Rattle.ir_ast.specs.declared.types.Place.{Place}
 use Rattle.ir_ast.specs.declared.program.Inst.{Inst}
 use Rattle.ir_ast.specs.declared.program.Param.{Param}
 use Rattle.runs.specs.Parts.{Answers}
-use Rattle.source_sem.specs.Parts.{Part, Copies, Progress, copy_done}
+use Rattle.thread_parts.specs.Parts.{Part, Copies}
+use Rattle.thread_parts.specs.Copies.{Progress, copy_done}
 use Rattle.source_sem.specs.Source.{Setting, Source, Frame, Doing, Entering, Copying, Retagging, op_part, source_ask, source_turn, source_answer, source_start, source_child, source_fits}
 
 abbrev pub IsSized : Option Attr → Type 0

@@ -35,9 +35,14 @@ use Rattle.ir_ast.specs.declared.program.Program.{Program}
 use Rattle.ir_ast.specs.declared.program.TypedVal.{TypedVal}
 use Rattle.runs.specs.Machine.{Machine}
 use Rattle.runs.specs.Threads.{CountsTurns}
-use Rattle.runs.specs.Erasure.{trap_of}
-use Rattle.source_sem.specs.Env.{Env, blank, plain_arg, value_in, operand, arg_of, args_of, prov_at, arg_at, cut_at, with_value, bind, put, put_some, bits}
-use Rattle.source_sem.specs.Parts.{Part, Gives, Steps, Retags, Copies, Calls, Joins, Accesses, Prints, Spawns, Loads, Stores, Modifies, Compares, Frees, part_ask, retag_ask, Progress, untouched, copy_ask, copy_after, copy_done, Owned, nothing_owned, release_ask, released, protect, without, number_in, step_owned, step_started, step_result, moved, binary_part, compared, chosen, cast_arg, input_arg, make_part, makes_step, retag_part, copy_part, call_part, host_part, join_part}
+use Rattle.history.specs.Replies.{trap_of}
+use Rattle.thread_parts.specs.Words.{blank, plain_arg, prov_at, arg_at, cut_at, number_in}
+use Rattle.ir_ast.specs.Words.{bits}
+use Rattle.source_sem.specs.Env.{Env, value_in, operand, arg_of, args_of, with_value, bind, put, put_some}
+use Rattle.thread_parts.specs.Parts.{Part, Gives, Steps, Retags, Copies, Calls, Joins, Accesses, Prints, Spawns, Loads, Stores, Modifies, Compares, Frees, part_ask, retag_ask, step_started, step_result, moved, binary_part, compared, chosen, cast_arg, input_arg, make_part, makes_step, retag_part, copy_part, call_part, host_part, join_part}
+use Rattle.thread_parts.specs.Copies.{Progress, untouched, copy_ask, copy_after, copy_done}
+use Rattle.thread_parts.specs.Owned.{Owned, nothing_owned, release_ask, released, protect, without, step_owned}
+use Rattle.thread_parts.specs.Fits.{ReplyFits}
 
 -- the program, its input, the hosts' names, and whether provenance is kept: without it this is the plain program
 pub record Setting : Type 0 where
@@ -401,72 +406,10 @@ source_child x t = frames_child x t.frames
 
 -- replies that fit -----------------------------------------------------------
 
--- a word of this type, with a provenance only where it is a pointer
-pub record ValueFits (ty : Ty) (v : Arg) : Type 0 where
-  pub word : v.value < 2 ^ Rattle.source_sem.specs.Env.word_bits ty
-  pub prov : prov_at ty v.prov ≡ v.prov
-
-abbrev pub IsTrap : Plain → Type 0
-IsTrap (plain.Trapped e) = Unit {0}
-IsTrap other = ⊥
-
-abbrev pub IsDone : Plain → Type 0
-IsDone plain.Done = Unit {0}
-IsDone other = ⊥
-
-abbrev pub ValueIn : Ty → Reply → Plain → Type 0
-ValueIn ty r (plain.Value v) = ValueFits ty (record { value = v; prov = r.carried })
-ValueIn ty r (plain.Trapped e) = Unit {0}
-ValueIn ty r other = ⊥
-
-abbrev pub CopiedOf : ℕ → Plain → Type 0
-CopiedOf n (plain.Copied piece) = length piece ≡ n
-CopiedOf n (plain.Trapped e) = Unit {0}
-CopiedOf n other = ⊥
-
-abbrev pub MadeAt : Entry → Plain → Type 0
-MadeAt e (plain.Made a) = (e.alloc ≡ Some a) × (e.reply.carried ≡ Some (record { alloc = a; tag = record { 0 = e.stamp.0 } }))
-MadeAt e other = ⊥
-
-abbrev pub RetaggedAt : Entry → Plain → Type 0
-RetaggedAt e (plain.Retagged true) = (a : AllocNo) × (e.alloc ≡ Some a) × (e.reply.carried ≡ Some (record { alloc = a; tag = record { 0 = e.stamp.0 } }))
-RetaggedAt e (plain.Retagged false) = Unit {0}
-RetaggedAt e other = ⊥
-
-abbrev pub SpawnedChild : Plain → Type 0
-SpawnedChild (plain.Spawned c) = c.0 < 2 ^ 32
-SpawnedChild other = ⊥
-
--- a word of 64 bits; nothing is asked of what it carries
-abbrev pub IsWord : Plain → Type 0
-IsWord (plain.Value v) = v < 2 ^ 64
-IsWord other = ⊥
-
 -- the type that a join names, if the thread stands at one
 abbrev pub part_type : Part → Option Ty
 part_type (Joins c ty attr) = ty
 part_type other = None
-
-abbrev pub JoinFits : Option Ty → Reply → Plain → Type 0
-JoinFits (Some ty) r p = ValueIn ty r p
-JoinFits None r (plain.Value v) = Unit {0}
-JoinFits None r other = ⊥
-
-abbrev pub ReplyFits : Option Ty → Entry → Request → Type 0
-ReplyFits ty e (request.Make n place) = MadeAt e e.reply.plain
-ReplyFits ty e (request.Load at u prov) = ValueIn u e.reply e.reply.plain
-ReplyFits ty e (request.Store at u v c prov) = IsDone e.reply.plain ⊎ IsTrap e.reply.plain
-ReplyFits ty e (request.Modify at w o v prov) = ValueIn (Int w) e.reply e.reply.plain
-ReplyFits ty e (request.CmpXchg at w a v prov) = ValueIn (Int w) e.reply e.reply.plain
-ReplyFits ty e (request.CopyOut at n prov) = CopiedOf n e.reply.plain
-ReplyFits ty e (request.CopyIn at piece prov) = IsDone e.reply.plain ⊎ IsTrap e.reply.plain
-ReplyFits ty e (request.Free at stack prov) = IsDone e.reply.plain ⊎ IsTrap e.reply.plain
-ReplyFits ty e (request.Retag at n kind guard prov) = RetaggedAt e e.reply.plain
-ReplyFits ty e (request.EndProtector tag) = IsDone e.reply.plain
-ReplyFits ty e (request.Print v) = IsDone e.reply.plain
-ReplyFits ty e (request.Host n a b) = IsWord e.reply.plain
-ReplyFits ty e (request.Spawn k) = SpawnedChild e.reply.plain
-ReplyFits ty e (request.Join c) = JoinFits ty e.reply e.reply.plain × (IsTrap e.reply.plain → ⊥)
 
 abbrev pub insts_type : Setting → Frame → ℕ → List Inst → Option Ty
 insts_type x f depth [] = None

@@ -5,7 +5,8 @@ use Rattle.ir_ast.specs.declared.hosts.HostTable.{HostTable}
 use Rattle.ir_ast.specs.declared.program.Param.{Param}
 use Rattle.ir_ast.specs.declared.program.Program.{Program}
 use Rattle.ir_ast.specs.Numbers.{function_place}
-use Rattle.source_sem.specs.Source.{Setting, Source, ValueFits, source_start}
+use Rattle.thread_parts.specs.Fits.{ValueFits}
+use Rattle.source_sem.specs.Source.{Setting, Source, source_start}
 
 -- the program with its input, over these host functions
 abbrev pub setting_of : Program → List ℕ → HostTable → Setting

@@ -1,15 +1,12 @@
 -- What the calls answer, and which operations have a trap.
 use Rattle.std.specs.Prelude.{ℕ, zero, suc, ◌*◌, Bool, true, false, Result, Ok, Err, nat_lt, if◌then◌else◌}
 use Rattle.ir_ast.specs.Arithmetic.{Worked, word, div_zero, shift_too_far}
-use Rattle.ir_ast.specs.Words.{width_bytes}
+use Rattle.ir_ast.specs.Words.{bits}
 use Rattle.ir_ast.specs.declared.types.Width.{Width}
 use Rattle.ir_ast.specs.declared.operators.BinaryOp.{BinaryOp}
 use Rattle.ir_ast.specs.declared.operators.BinaryOp.TheVariants.{Udiv, Sdiv, Urem, Srem, Shl, Lshr, Ashr}
 use Rattle.word_ops.specs.declared.WordTrap.{WordTrap}
 use Rattle.word_ops.specs.declared.WordTrap.TheVariants.{DivZero, ShiftTooFar}
-
-abbrev pub bits : Width → ℕ
-bits width = 8 * width_bytes width
 
 abbrev pub answer_of : Worked → Result ℕ WordTrap
 answer_of (word n) = Ok n

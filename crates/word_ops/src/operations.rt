@@ -1,8 +1,8 @@
 //! The operations, by operator.
 ghost use Rattle.std.specs.Prelude.{◌≡◌, ◌≢◌, ◌<◌, ◌≤◌, ◌↔◌, ℕ, IsTrue, IfOk};
 ghost use Rattle.ir_ast.specs.Arithmetic.{Worked, cast_word, holds, worked};
-ghost use Rattle.ir_ast.specs.Words.{modified, modulus};
-ghost use Rattle.word_ops.specs.Answers.{answer_of, bits, divides, divisor_of, shift_of, shifts};
+ghost use Rattle.ir_ast.specs.Words.{modified, modulus, bits};
+ghost use Rattle.word_ops.specs.Answers.{answer_of, divides, divisor_of, shift_of, shifts};
 
 use crate::WordTrap;
 use crate::signs::{distance_from_zero, negative, rank, shifted_with_sign, with_sign};

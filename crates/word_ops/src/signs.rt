@@ -1,8 +1,7 @@
 //! Words read as signed numbers: a sign and a magnitude.
 ghost use Rattle.std.specs.Prelude.{◌≡◌, ◌<◌, ◌≢◌};
 ghost use Rattle.ir_ast.specs.Arithmetic.{is_negative, magnitude, shifted_right, signed_rank, signed_word};
-ghost use Rattle.ir_ast.specs.Words.{modulus};
-ghost use Rattle.word_ops.specs.Answers.{bits};
+ghost use Rattle.ir_ast.specs.Words.{modulus, bits};
 
 use crate::widths::{cut, greatest};
 use ir_ast::Width;

@@ -1,7 +1,6 @@
 //! How many bits a word has, and the word that is left of a number.
 ghost use Rattle.std.specs.Prelude.{◌≡◌, ◌-◌, ◌%◌, ◌<◌};
-ghost use Rattle.ir_ast.specs.Words.{modulus};
-ghost use Rattle.word_ops.specs.Answers.{bits};
+ghost use Rattle.ir_ast.specs.Words.{modulus, bits};
 
 use ir_ast::Width;
 

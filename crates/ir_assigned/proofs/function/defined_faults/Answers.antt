@@ -1,9 +1,9 @@
 use Rattle.std.proofs.Common.{◌+◌, Option, take, sym, subst}
-use Rattle.ir_rules.specs.declared.Fault.{Fault}
+use Rattle.ir_rules.specs.declared.rule.Fault.{Fault}
 use Rattle.ir_rules.specs.Least.{IsLeast}
-use Rattle.ir_occurrences.specs.Seen.{event_of, seen}
-use Rattle.ir_occurrences.specs.declared.events.Occurrence.{Occurrence}
-use Rattle.ir_occurrences.proofs.Least.{least-same}
+use Rattle.ir_rules.specs.Seen.{event_of, seen}
+use Rattle.ir_rules.specs.declared.events.Occurrence.{Occurrence}
+use Rattle.ir_rules.proofs.Least.{least-same}
 use Rattle.ir_assigned.specs.Faults.{AnyOf, EventFault}
 use Rattle.ir_assigned.proofs.Firsts.{any_next, any_all, any_map, map_any}
 use Rattle.ir_assigned.proofs.function.defined_faults.Goals as goal

@@ -1,6 +1,6 @@
 use Rattle.std.proofs.Common.{take}
 use Rattle.ir_rules.specs.Least.{IsLeast}
-use Rattle.ir_occurrences.specs.Seen.{event_of}
+use Rattle.ir_rules.specs.Seen.{event_of}
 use Rattle.ir_assigned.specs.Faults.{AnyOf, EventFault}
 use Rattle.ir_assigned.proofs.function.defined_faults.Given as goal
 

@@ -1,8 +1,8 @@
 use Rattle.std.proofs.Common.{List, None, sym, subst}
 use Rattle.std.specs.Prelude.{IfOk}
 use Rattle.ir_rules.specs.Least.{IsLeast}
-use Rattle.ir_occurrences.specs.Seen.{event_by}
-use Rattle.ir_occurrences.specs.declared.events.Role.{Role}
+use Rattle.ir_rules.specs.Seen.{event_by}
+use Rattle.ir_rules.specs.declared.events.Role.{Role}
 use Rattle.ir_assigned.specs.Faults.{EventFault, RegisterFault}
 use Rattle.ir_assigned.proofs.function.occurrence_fault.Goals as goal
 

@@ -1,7 +1,7 @@
 use Rattle.std.proofs.Common.{◌≡◌, ◌++◌, List, map, take, get_or, sym, ap, ◌∙◌}
 use Rattle.ir_rules.specs.Occurrences.{Event, block_events}
-use Rattle.ir_occurrences.specs.Seen.{seen}
-use Rattle.ir_occurrences.specs.declared.events.Occurrence.{Occurrence}
+use Rattle.ir_rules.specs.Seen.{seen}
+use Rattle.ir_rules.specs.declared.events.Occurrence.{Occurrence}
 use Rattle.ir_assigned.specs.declared.mentions.Mention.{Mention}
 use Rattle.ir_assigned.specs.Mentions.{mentions, mentions_from}
 use Rattle.ir_assigned.proofs.Table.{from_next}

@@ -1,6 +1,6 @@
 use Rattle.std.proofs.Common.{◌≡◌, ◌++◌, ℕ, List, take, get_or, sym, ap, ◌∙◌, append_assoc, bytes_eq}
-use Rattle.ir_occurrences.specs.Seen.{seen, event_of}
-use Rattle.ir_occurrences.specs.declared.events.Occurrence.{Occurrence}
+use Rattle.ir_rules.specs.Seen.{seen, event_of}
+use Rattle.ir_rules.specs.declared.events.Occurrence.{Occurrence}
 use Rattle.ir_assigned.specs.declared.mentions.Mention.{Mention}
 use Rattle.ir_assigned.specs.Mentions.{register_of, mention_of, mention_if, mentions, mentions_in}
 use Rattle.ir_assigned.proofs.Firsts.{take_whole}

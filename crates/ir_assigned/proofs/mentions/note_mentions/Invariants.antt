@@ -1,5 +1,5 @@
 use Rattle.std.proofs.Common.{◌≡◌, ◌++◌, ℕ, List, take}
-use Rattle.ir_occurrences.specs.Seen.{seen}
+use Rattle.ir_rules.specs.Seen.{seen}
 use Rattle.ir_assigned.specs.Mentions.{mentions, mentions_in}
 use Rattle.ir_assigned.proofs.mentions.note_mentions.Given as goal
 

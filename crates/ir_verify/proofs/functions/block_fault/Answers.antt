@@ -1,12 +1,12 @@
 use Rattle.std.proofs.Common.{◌+◌, List, Option, take, get_or, sym, subst, ◌⊎◌}
 use Rattle.ir_ast.specs.declared.program.Inst.{Inst}
-use Rattle.ir_rules.specs.declared.Fault.{Fault}
+use Rattle.ir_rules.specs.declared.rule.Fault.{Fault}
 use Rattle.ir_rules.specs.Least.{IsLeast}
 use Rattle.ir_rules.specs.Occurrences.{function_events, jump_goals}
-use Rattle.ir_occurrences.specs.Walk.{held_in}
-use Rattle.ir_occurrences.proofs.Least.{least-or}
+use Rattle.ir_rules.specs.Walk.{held_in}
+use Rattle.ir_rules.proofs.Least.{least-or}
 use Rattle.ir_verify.specs.Faults.{AnyOf, InstFault, RetFault, GoalFault, BlockFault}
-use Rattle.ir_verify.specs.Checks.{op_fault}
+use Rattle.ir_rules.specs.Checks.{op_fault}
 use Rattle.ir_verify.proofs.Any.{any-next, any-all}
 use Rattle.ir_verify.proofs.Said.{least_op, least_ret}
 use Rattle.ir_verify.proofs.functions.block_fault.Goals as goal

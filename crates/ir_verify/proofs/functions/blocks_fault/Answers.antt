@@ -1,6 +1,6 @@
 use Rattle.std.proofs.Common.{◌+◌, List, Option, take, sym, subst}
 use Rattle.ir_ast.specs.declared.program.Block.{Block}
-use Rattle.ir_rules.specs.declared.Fault.{Fault}
+use Rattle.ir_rules.specs.declared.rule.Fault.{Fault}
 use Rattle.ir_rules.specs.Least.{IsLeast}
 use Rattle.ir_verify.specs.Faults.{AnyOf, BlockFault}
 use Rattle.ir_verify.proofs.Any.{any-next, any-all}

@@ -1,11 +1,11 @@
 use Rattle.std.proofs.Common.{◌≡◌, List, Option, map, ◌∙◌, ap, sym, subst, Bor}
 use Rattle.ir_ast.specs.declared.program.Named.{Named}
 use Rattle.ir_ast.specs.declared.program.Block.{Block}
-use Rattle.ir_rules.specs.declared.Fault.{Fault}
+use Rattle.ir_rules.specs.declared.rule.Fault.{Fault}
 use Rattle.ir_rules.specs.Least.{IsLeast}
-use Rattle.ir_occurrences.proofs.Least.{least-or}
+use Rattle.ir_rules.proofs.Least.{least-or}
 use Rattle.ir_verify.specs.Faults.{TwiceFault, FirstBlockFault, LabelFault}
-use Rattle.ir_verify.specs.Checks.{first_block_fault}
+use Rattle.ir_rules.specs.Checks.{first_block_fault}
 use Rattle.ir_verify.proofs.Said.{least_first}
 use Rattle.ir_verify.proofs.functions.label_fault.Goals as goal
 

@@ -1,11 +1,11 @@
 use Rattle.std.proofs.Common.{◌≡◌, List, Option, map, ◌∙◌, ap, sym, subst, Bor}
 use Rattle.ir_ast.specs.declared.program.Named.{Named}
-use Rattle.ir_rules.specs.declared.Fault.{Fault}
+use Rattle.ir_rules.specs.declared.rule.Fault.{Fault}
 use Rattle.ir_rules.specs.Least.{IsLeast}
 use Rattle.ir_rules.specs.Rules.{defined}
-use Rattle.ir_occurrences.specs.Seen.{seen}
-use Rattle.ir_occurrences.specs.Walk.{WrongUse}
-use Rattle.ir_occurrences.proofs.Least.{least-or}
+use Rattle.ir_rules.specs.Seen.{seen}
+use Rattle.ir_rules.specs.Walk.{WrongUse}
+use Rattle.ir_rules.proofs.Least.{least-or}
 use Rattle.ir_verify.specs.Faults.{TwiceFault, RegisterFault}
 use Rattle.ir_verify.proofs.functions.register_fault.Goals as goal
 

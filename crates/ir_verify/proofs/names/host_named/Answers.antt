@@ -1,6 +1,6 @@
 use Rattle.std.proofs.Common.{◌∙◌, ap, sym}
 use Rattle.ir_ast.specs.declared.hosts.HostEntry.{HostEntry}
-use Rattle.ir_verify.proofs.Agree.{named_at, at_place}
+use Rattle.ir_rules.proofs.Agree.{named_at, at_place}
 use Rattle.ir_verify.proofs.names.host_named.Goals as goal
 
 pub returns-in-Some : goal.returns-in-Some

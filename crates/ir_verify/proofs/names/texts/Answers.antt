@@ -1,6 +1,6 @@
 use Rattle.std.proofs.Common.{◌∙◌, ap, map, Bor}
 use Rattle.ir_ast.specs.declared.program.Named.{Named}
-use Rattle.ir_occurrences.proofs.Uses.{take_whole}
+use Rattle.ir_rules.proofs.Uses.{take_whole}
 use Rattle.ir_verify.proofs.Steps.{mapped-next}
 use Rattle.ir_verify.proofs.names.texts.Goals as goal
 

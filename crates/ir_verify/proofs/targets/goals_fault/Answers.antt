@@ -1,6 +1,6 @@
 use Rattle.std.proofs.Common.{[], ◌∷◌, Option, sym, subst}
 use Rattle.ir_ast.specs.declared.program.Jump.{Jump}
-use Rattle.ir_rules.specs.declared.Fault.{Fault}
+use Rattle.ir_rules.specs.declared.rule.Fault.{Fault}
 use Rattle.ir_rules.specs.Least.{IsLeast}
 use Rattle.ir_rules.specs.Occurrences.{jump_goals}
 use Rattle.ir_verify.specs.Faults.{AnyOf, GoalFault}

@@ -1,6 +1,6 @@
 use Rattle.std.proofs.Common.{◌≡◌, map, take}
 use Rattle.ir_rules.specs.Rules.{defined}
-use Rattle.ir_occurrences.specs.Seen.{seen}
+use Rattle.ir_rules.specs.Seen.{seen}
 use Rattle.ir_verify.proofs.twice.definitions.Given as goal
 
 abbrev pub invariant-loop-occurrence : goal.invariant-loop-occurrence

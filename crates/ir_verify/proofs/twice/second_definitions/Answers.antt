@@ -1,7 +1,7 @@
 use Rattle.std.proofs.Common.{◌≡◌, ◌+◌, ◌<◌, ◌≤◌, ℕ, List, Option, map, take, length, get_or, ◌∙◌, ap, sym, subst, Bor, bytes_eq, arith}
 use Rattle.std.proofs.lemmas.List.{length-map, get_or-map}
 use Rattle.ir_ast.specs.declared.program.Named.{Named}
-use Rattle.ir_rules.specs.declared.Fault.{Fault}
+use Rattle.ir_rules.specs.declared.rule.Fault.{Fault}
 use Rattle.ir_rules.specs.Least.{IsLeast, lesser}
 use Rattle.ir_verify.specs.Counts.{times_in, one_more, twice_fault}
 use Rattle.ir_verify.proofs.Seconds.{Seconds, seconds_next, seconds_all, counts_next}

@@ -1,6 +1,6 @@
 use Rattle.std.proofs.Common.{◌+◌, ◌∙◌, ap, sym, refl, Bool, false, cond, drop}
 use Rattle.ir_ast.specs.declared.program.TypedVal.{TypedVal}
-use Rattle.ir_verify.specs.Checks.{is_host_type, all_host_types}
+use Rattle.ir_rules.specs.Checks.{is_host_type, all_host_types}
 use Rattle.ir_verify.proofs.Steps.{hosts_here, hosts_past}
 use Rattle.ir_verify.proofs.types.all_host_types.Goals as goal
 

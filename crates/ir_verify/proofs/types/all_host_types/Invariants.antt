@@ -1,5 +1,5 @@
 use Rattle.std.proofs.Common.{◌≡◌, drop}
-use Rattle.ir_verify.specs.Checks.{all_host_types}
+use Rattle.ir_rules.specs.Checks.{all_host_types}
 use Rattle.ir_verify.proofs.types.all_host_types.Given as goal
 
 abbrev pub invariant-loop-arg : goal.invariant-loop-arg

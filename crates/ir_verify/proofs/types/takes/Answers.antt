@@ -1,5 +1,5 @@
 use Rattle.std.proofs.Common.{◌≡◌, ◌+◌, ◌<◌, ◌≤◌, ◌∙◌, ap, sym, refl, Bool, false, cond, drop, length, arith}
-use Rattle.ir_verify.specs.Checks.{takes}
+use Rattle.ir_rules.specs.Checks.{takes}
 use Rattle.ir_verify.proofs.Steps.{takes_here, takes_past, takes_not}
 use Rattle.ir_verify.proofs.types.takes.Goals as goal
 

@@ -1,5 +1,5 @@
 use Rattle.std.proofs.Common.{◌≡◌, drop}
-use Rattle.ir_verify.specs.Checks.{takes}
+use Rattle.ir_rules.specs.Checks.{takes}
 use Rattle.ir_verify.proofs.types.takes.Given as goal
 
 abbrev pub invariant-loop-i : goal.invariant-loop-i

@@ -3,11 +3,8 @@ use Rattle.ir_ast.specs.declared.hosts.HostTable.{HostTable}
 use Rattle.ir_rules.specs.Rules.{IsAccepted}
 use Rattle.ir_verify.proofs.verifier.accept.Goals as goal
 
-pub invariant_of-result : goal.invariant_of-result
-invariant_of-result c = record {
-  is_program = c.requires.program;
-  few_hosts = subst (λ (z : HostTable). length z.entries < 2 ^ 32) (sym c.in_ok-hosts.ensures) c.requires.few_hosts;
-  accepted = subst (IsAccepted c.args.program) (sym c.in_ok-hosts.ensures) c.requires.accepted;
-  function_number = c.function_count-functions.ensures;
-  instruction_number = c.program_instructions-instructions.ensures;
-}
+pub new-requires-clause-few_hosts : goal.new-requires-clause-few_hosts
+new-requires-clause-few_hosts c = subst (λ (z : HostTable). length z.entries < 2 ^ 32) (sym c.in_ok-hosts.ensures) c.requires.few_hosts
+
+pub new-requires-clause-accepted : goal.new-requires-clause-accepted
+new-requires-clause-accepted c = subst (IsAccepted c.args.program) (sym c.in_ok-hosts.ensures) c.requires.accepted

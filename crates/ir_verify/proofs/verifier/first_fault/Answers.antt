@@ -1,5 +1,5 @@
 use Rattle.std.proofs.Common.{Option, sym, subst}
-use Rattle.ir_rules.specs.declared.Fault.{Fault}
+use Rattle.ir_rules.specs.declared.rule.Fault.{Fault}
 use Rattle.ir_rules.specs.Least.{IsLeast}
 use Rattle.ir_rules.specs.Rules.{BrokenFault}
 use Rattle.ir_verify.proofs.Whole.{least_whole}

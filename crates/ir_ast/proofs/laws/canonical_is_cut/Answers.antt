@@ -1,5 +1,0 @@
-use Rattle.ir_ast.proofs.Cut.{canonical_is_cut}
-use Rattle.ir_ast.proofs.laws.canonical_is_cut.Goals as goal
-
-pub returns : goal.returns
-returns c = canonical_is_cut

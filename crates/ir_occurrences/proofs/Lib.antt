@@ -1,5 +1,0 @@
-pub mod Adds
-pub mod Places
-pub mod Least
-pub mod Table
-pub mod Uses

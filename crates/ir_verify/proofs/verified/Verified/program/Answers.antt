@@ -1,5 +1,0 @@
-use Rattle.ir_ast.proofs.Limits.{keeps_limits}
-use Rattle.ir_verify.proofs.verified.Verified.program.Goals as goal
-
-pub returns-clause-limits : goal.returns-clause-limits
-returns-clause-limits c = keeps_limits c.args.self.now.program c.args.self.now.is_program

@@ -1,4 +1,0 @@
-//! What the verifier's rules say of joins.
-#![tactic(auto)]
-
-pub mod laws;

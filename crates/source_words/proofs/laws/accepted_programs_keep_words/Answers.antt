@@ -1,7 +1,0 @@
-use Rattle.source_words.specs.Invariant.{Passes}
-use Rattle.source_words.proofs.Accepting.{program_typed}
-use Rattle.source_words.proofs.Keeping.{word_law}
-use Rattle.source_words.proofs.laws.accepted_programs_keep_words.Goals as goal
-
-pub returns : goal.returns
-returns c = λ x hosts runs program ok bytes numbers. word_law x (Passes runs) numbers.main numbers.short bytes (program_typed x.program hosts program ok)

@@ -1,5 +1,0 @@
-use Rattle.source_words.proofs.Bytes.{allocation_law}
-use Rattle.source_words.proofs.laws.allocations_answer_words.Goals as goal
-
-pub returns : goal.returns
-returns c = allocation_law

@@ -1,4 +1,0 @@
-pub mod Typing
-pub mod Invariant
-pub mod Allocations
-pub mod Worlds

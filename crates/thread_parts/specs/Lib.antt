@@ -1,0 +1,5 @@
+pub mod Words
+pub mod Copies
+pub mod Parts
+pub mod Owned
+pub mod Fits
