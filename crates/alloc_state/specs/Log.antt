@@ -6,10 +6,8 @@ use Rattle.std.specs.declared.alloc.Global.{Global}
 use Rattle.bsan_ids.specs.declared.numbers.AllocNo.{AllocNo}
 use Rattle.history.specs.declared.entry.Entry.{Entry}
 use Rattle.history.specs.declared.entry.Request.{Request}
-use Rattle.history.specs.declared.entry.Request.TheVariants.{CopyIn}
-use Rattle.ir_ast.specs.Tokens.{Each}
 use Rattle.history.specs.Objects.{unmade}
-use Rattle.history.specs.Histories.{replay, is_make, IsHistory}
+use Rattle.history.specs.Histories.{replay, is_make, HasBytes, IsHistory}
 use Rattle.alloc_state.specs.Prepared.{Prepared}
 
 -- an allocation's number, its entries, oldest first, and the request for which memory was taken
@@ -21,11 +19,6 @@ pub record Log : Type 0 where
 -- whether one of the entries is a Make
 abbrev pub has_make : List Entry → Bool
 has_make entries = list_any (λ e. is_make e.request) entries
-
--- the bytes that a request writes are bytes
-abbrev pub HasBytes : Request → Type 0
-HasBytes (CopyIn at piece prov) = Each (λ b. b.0 < 256) piece
-HasBytes other = Unit {0}
 
 -- the entries are a legal history, the state is their replay, and there is room for the request that is ready
 pub record IsKept (number : ℕ) (entries : Vec Entry Global) (prepared : Prepared) : Type 0 where

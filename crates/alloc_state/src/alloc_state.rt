@@ -1,8 +1,8 @@
 //! The log of one allocation.
 ghost use Rattle.std.specs.Prelude.{◌≡◌, ◌∷◌, ◌++◌, [], ◌<◌, All, IsTrue, OnOk, OnErr, Some, None, true, false};
 ghost use Rattle.history.specs.Objects.{answer, unmade};
-ghost use Rattle.alloc_state.specs.Log.{has_make, HasBytes};
-ghost use Rattle.history.specs.Histories.{replay, fits, is_make, IsHistory};
+ghost use Rattle.history.specs.Histories.{HasBytes, replay, fits, is_make, IsHistory};
+ghost use Rattle.alloc_state.specs.Log.{has_make};
 
 use crate::object_state::ObjectState;
 use bsan_ids::{AllocNo, ListOf, NoMemory, Stamp, ThreadNo};

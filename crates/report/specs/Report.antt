@@ -34,18 +34,11 @@ abbrev pub end_lines : RunRecord → List ℕ
 end_lines kept = flat_map end_line kept.threads
 
 -- 4. how many steps, allocations, threads, and allocations with a violation
-abbrev pub is_make : Request → Bool
-is_make (Make size place) = true
-is_make _ = false
-
-abbrev pub makes : Entry → Bool
-makes entry = is_make entry.request
-
 abbrev pub steps_of : List ThreadLog → ℕ
 steps_of logs = sum_by (λ log. length log.entries) logs
 
 abbrev pub makes_of : List ThreadLog → ℕ
-makes_of logs = sum_by (λ log. count_by makes log.entries) logs
+makes_of logs = sum_by (λ log. count_by is_make_step log.entries) logs
 
 abbrev pub violations_of : List AllocLog → ℕ
 violations_of logs = count_by has_violation logs

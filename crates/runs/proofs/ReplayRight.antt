@@ -25,7 +25,8 @@ use Rattle.runs.specs.Threads.{Feeds, IsThreadRun, EndsAs}
 use Rattle.runs.specs.Interleaving.{World, first_world, world_after, Allowed, Replies, Interleaves, Legal, MakesUnmade}
 use Rattle.runs.specs.Merge.{merged, entries_of, IsOwn, MayMerge, no_logs, one_more}
 use Rattle.runs.specs.Stamps.{Has, RisesFrom}
-use Rattle.runs.specs.Right.{HasLog, NumbersRiseFrom, end_of, IsSpawnedOnce, HasThreads, HasRuns, MergesToRun, HasHistories, HasCounts, IsRight, AllocsRiseFrom, history_of, starts_thread, IsReached, is_main, is_spawned, StandsAsking, AtLeast, asks_make, asks_spawn, beyond, beyond_of, alloc_numbers, thread_numbers, counting_from, is_make, is_spawn}
+use Rattle.history.specs.Histories.{is_make_step}
+use Rattle.runs.specs.Right.{HasLog, NumbersRiseFrom, end_of, IsSpawnedOnce, HasThreads, HasRuns, MergesToRun, HasHistories, HasCounts, IsRight, AllocsRiseFrom, history_of, starts_thread, IsReached, is_main, is_spawned, StandsAsking, AtLeast, asks_make, asks_spawn, beyond, beyond_of, alloc_numbers, thread_numbers, counting_from, is_spawn}
 use Rattle.runs.specs.Replay.{Fiber, Progress}
 use Rattle.runs.specs.ReplayLaw.{log_of, logs_from, with_history, histories_from, record_of, makes, ReplayIsRight}
 use Rattle.runs.proofs.MergeLaws.{above_first, merged_is_merge, rises_lower}
@@ -478,7 +479,7 @@ module _ (M : Machine) (O : Memory) (A : Allowed) (limits : Limits) (main : ℕ)
         stamps = c.stamps ∙ ap (λ l. length l + length (beyond_in M p.threads)) (sym merge_is) ∙ ap (λ l. length (merged logs) + length l) (sym beyond_is);
         above = subst (λ l. IsPermutation l (counting_from (limits.steps + 1) (length l))) (sym beyond_is) c.above;
         full = λ some. ap length merge_is ∙ c.full (subst (λ l. 0 < length l) beyond_is some);
-        allocs = (total (λ f. ended_at M asks_make f) p.threads, asking M limits s.starts asks_make p.threads 0 all_ran, subst (λ l. p.words.allocs ≤ count_by is_make l + total (λ f. ended_at M asks_make f) p.threads) (sym merge_is) c.allocs);
+        allocs = (total (λ f. ended_at M asks_make f) p.threads, asking M limits s.starts asks_make p.threads 0 all_ran, subst (λ l. p.words.allocs ≤ count_by is_make_step l + total (λ f. ended_at M asks_make f) p.threads) (sym merge_is) c.allocs);
         threads = (total (λ f. ended_at M asks_spawn f) p.threads, asking M limits s.starts asks_spawn p.threads 0 all_ran, subst (λ l. p.words.threads ≤ count_by is_spawn l + total (λ f. ended_at M asks_spawn f) p.threads) (sym merge_is) c.threads);
         made_within = All-from_recursion _ _ (subst (λ l. AllByRecursion (λ n. n ≤ p.words.allocs) l) (sym made) c.made.0);
         made_differ = subst (λ l. IsDistinct nat_eq l) (sym made) c.made.1;

@@ -19,7 +19,8 @@ use Rattle.history.specs.declared.log.End.TheVariants as log_end
 use Rattle.runs.specs.Machine.{Machine, Memory}
 use Rattle.runs.specs.Threads.{EndsAs}
 use Rattle.runs.specs.Interleaving.{Allowed}
-use Rattle.runs.specs.Right.{beyond_of, counting_from, made_by, spawned_by_reply, alloc_limit_of, thread_limit_of, is_make, is_spawn, asks_make, asks_spawn}
+use Rattle.history.specs.Histories.{is_make_step}
+use Rattle.runs.specs.Right.{beyond_of, counting_from, made_by, spawned_by_reply, alloc_limit_of, thread_limit_of, is_spawn, asks_make, asks_spawn}
 use Rattle.runs.specs.Replay.{Fiber, Progress, Steps, object_at, IsOwnEnd, RestsAs, RepliesNext, EndsNext, drawn_by, drawn_by_end, new_fibers, picked}
 use Rattle.runs.specs.ReplayLaw.{makes, MakesAlone}
 use Rattle.runs.proofs.FiberLists.{gained, gained_none, gained_last, total, total_set, total_more, Drawn, drawn_more, drawn_one, drawn_moved, counting_more, count_more, told_more, length_more}
@@ -53,7 +54,7 @@ pub record Sums (M : Machine) (O : Memory) (limits : Limits) (p : Progress M O) 
   pub above : IsPermutation (beyond_in M p.threads) (counting_from (limits.steps + 1) (length (beyond_in M p.threads)))
   pub full : 0 < length (beyond_in M p.threads) → length p.merge ≡ limits.steps
   pub within : length p.merge ≤ limits.steps
-  pub allocs : p.words.allocs ≤ count_by is_make p.merge + total (λ f. ended_at M asks_make f) p.threads
+  pub allocs : p.words.allocs ≤ count_by is_make_step p.merge + total (λ f. ended_at M asks_make f) p.threads
   pub threads : p.words.threads ≤ count_by is_spawn p.merge + total (λ f. ended_at M asks_spawn f) p.threads
   pub made : Drawn p.words.allocs (flat_map (λ f. allocs_at M f) p.threads)
   pub spawned : Drawn p.words.threads (flat_map (λ f. threads_at M f) p.threads)
@@ -227,7 +228,7 @@ new_total : (M : Machine) (h : Fiber M → ℕ) (t : ℕ) (child : M.State) (r :
 new_total M h t child (request.Spawn k) fs none = let more = total_more h fs (record { parent = Some (record { 0 = t }); function = k; state = child; entries = []; «end» = None }) in let n = none k in omega (arith, more, n)
 new_total M h t child _ fs none = ap (total h) (append-nil fs)
 
-pub is_make_is : (e : Entry) (r : Request) → is_make (record e { request = r }) ≡ makes r
+pub is_make_is : (e : Entry) (r : Request) → is_make_step (record e { request = r }) ≡ makes r
 is_make_is e (request.Make size place) = refl
 is_make_is e _ = refl
 
@@ -335,7 +336,7 @@ sums_step M O A limits p t f now e over laws few s at opened less next rests =
     let total_spawn = total_set (λ (k : Fiber M). ended_at M asks_spawn k) p.threads t f f' at in
     let new_make = new_total M (λ k. ended_at M asks_make k) t child e.request fs (λ k. refl) in
     let new_spawn = new_total M (λ k. ended_at M asks_spawn k) t child e.request fs (λ k. refl) in
-    let count_make = count_more is_make p.merge e ∙ ap (λ b. count_by is_make p.merge + cond b 1 0) (is_make_is e e.request) in
+    let count_make = count_more is_make_step p.merge e ∙ ap (λ b. count_by is_make_step p.merge + cond b 1 0) (is_make_is e e.request) in
     let count_spawn = count_more is_spawn p.merge e ∙ ap (λ b. count_by is_spawn p.merge + cond b 1 0) (is_spawn_is e e.request) in
     record {
       stamps = (let a = s.stamps in let b = drawn_stamps p.words e.request in let c = ap length beyond in omega (arith, a, b, c, none, long));

@@ -25,7 +25,8 @@ use Rattle.runs.specs.Machine.{Machine, Memory}
 use Rattle.runs.specs.Merge.{merged, MayMerge, IsMerge}
 use Rattle.runs.specs.Parts.{names, of_alloc, of_thread, child_of, spawned_by, spawned_of}
 use Rattle.runs.specs.ReplayLaw.{makes, MakesAlone}
-use Rattle.runs.specs.Right.{HasLog, NumbersRiseFrom, HasThreads, HasRuns, HasHistories, HasCounts, MergesToRun, IsRight, IsReached, is_main, is_spawned, end_of, history_of, starts_thread, beyond, beyond_of, counting_from, alloc_numbers, thread_numbers, made_by, spawned_by_reply, alloc_limit_of, thread_limit_of, is_make, is_spawn, asks_make, asks_spawn, StandsAsking, DrawnAtMost}
+use Rattle.history.specs.Histories.{is_make_step}
+use Rattle.runs.specs.Right.{HasLog, NumbersRiseFrom, HasThreads, HasRuns, HasHistories, HasCounts, MergesToRun, IsRight, IsReached, is_main, is_spawned, end_of, history_of, starts_thread, beyond, beyond_of, counting_from, alloc_numbers, thread_numbers, made_by, spawned_by_reply, alloc_limit_of, thread_limit_of, is_spawn, asks_make, asks_spawn, StandsAsking, DrawnAtMost}
 use Rattle.runs.specs.Stamps.{Has, RisesFrom}
 use Rattle.runs.specs.Theorem.{HasPromises, WholeRunsAreRight, NumbersDiffer}
 use Rattle.runs.specs.Threads.{EndsAs}
@@ -392,15 +393,15 @@ module _ (M : Machine) (O : Memory) (A : Allowed) (limits : Limits) (main : ℕ)
 
   -- numbers ------------------------------------------------------------------------------------
 
-  made_few : sum_by (λ (e : Entry). length (made_by e.reply.plain)) (all_entries logs) ≤ count_by is_make (merged ls)
+  made_few : sum_by (λ (e : Entry). length (made_by e.reply.plain)) (all_entries logs) ≤ count_by is_make_step (merged ls)
   made_few =
       let k : Entry → ℕ = λ e. length (made_by e.reply.plain) in
       let all = weigh_merged k ls ∙ entries_moved k logs ls p in
-      let less = list_less k (one_if is_make) (merged ls) (λ e h. by_make e h (makes e.request) refl) in
+      let less = list_less k (one_if is_make_step) (merged ls) (λ e h. by_make e h (makes e.request) refl) in
       omega (arith, all, less)
     where
-      by_make : (e : Entry) → Has (merged ls) e → (b : Bool) → makes e.request ≡ b → length (made_by e.reply.plain) ≤ one_if is_make e
-      by_make e h true is = let one_is : one_if is_make e ≡ 1 = ap (λ b. cond b 1 0) (is_make_is e e.request ∙ is) in let few = few_made e.reply.plain in omega (arith, one_is, few)
+      by_make : (e : Entry) → Has (merged ls) e → (b : Bool) → makes e.request ≡ b → length (made_by e.reply.plain) ≤ one_if is_make_step e
+      by_make e h true is = let one_is : one_if is_make_step e ≡ 1 = ap (λ b. cond b 1 0) (is_make_is e e.request ∙ is) in let few = few_made e.reply.plain in omega (arith, one_is, few)
       by_make e h false is = let none : length (made_by e.reply.plain) ≡ 0 = ap (length {A = ℕ}) (run_made M O A laws (first_world M O start) (merged ls) run.run e h is) in omega (arith, none)
 
   spawned_few : sum_by (λ (e : Entry). length (spawned_by_reply e.reply.plain)) (all_entries logs) ≤ count_by is_spawn (merged ls)
@@ -421,7 +422,7 @@ module _ (M : Machine) (O : Memory) (A : Allowed) (limits : Limits) (main : ℕ)
       let d = sum_ones (counting_from 1 n) ∙ length_counting 1 n in
       omega (arith, a, b, d, length-append xs ys)
 
-  drawn_allocs : DrawnAtMost M asks_make is_make limits starts ls kept.words.allocs
+  drawn_allocs : DrawnAtMost M asks_make is_make_step limits starts ls kept.words.allocs
   drawn_allocs =
       let n = length (flat_map (λ (log : ThreadLog). alloc_limit_of log.«end») logs) + length w.idle_allocs in
       let all = many (flat_map alloc_numbers logs) w.idle_allocs kept.words.allocs w.allocs_drawn in

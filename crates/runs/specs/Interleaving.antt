@@ -10,7 +10,8 @@ use Rattle.history.specs.declared.entry.Request.TheVariants as request
 use Rattle.history.specs.declared.entry.Plain.TheVariants as plain
 use Rattle.history.specs.declared.ask.Ask.TheVariants as ask
 use Rattle.history.specs.declared.ask.MachineEnd.TheVariants as end
-use Rattle.runs.specs.Parts.{clean, names, child_of, is_child, Answers}
+use Rattle.history.specs.Objects.{clean}
+use Rattle.runs.specs.Parts.{names, child_of, is_child, Answers}
 use Rattle.runs.specs.Machine.{Machine, Memory, Settles}
 
 -- the state of each started thread, and the object of each number

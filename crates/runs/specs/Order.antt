@@ -12,7 +12,8 @@ use Rattle.history.specs.declared.entry.Request.TheVariants as request
 use Rattle.history.specs.declared.entry.Plain.TheVariants as plain
 use Rattle.history.specs.declared.ask.Ask.TheVariants as ask
 use Rattle.history.specs.declared.ask.MachineEnd.TheVariants as end
-use Rattle.runs.specs.Parts.{clean, of_thread, child_of, is_child}
+use Rattle.history.specs.Objects.{clean}
+use Rattle.runs.specs.Parts.{of_thread, child_of, is_child}
 use Rattle.runs.specs.Machine.{Machine}
 use Rattle.runs.specs.Threads.{Feeds}
 use Rattle.runs.specs.Interleaving.{Allowed}

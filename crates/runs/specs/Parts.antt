@@ -7,15 +7,8 @@ use Rattle.history.specs.declared.entry.Request.TheVariants as request
 use Rattle.history.specs.declared.entry.Plain.{Plain}
 use Rattle.history.specs.declared.entry.Plain.TheVariants as plain
 use Rattle.bsan_ids.specs.declared.numbers.AllocNo.{AllocNo}
-use Rattle.bsan_ids.specs.declared.numbers.Prov.{Prov}
-use Rattle.history.specs.declared.entry.Reply.{Reply}
-use Rattle.history.specs.declared.entry.Verdict.TheVariants as verdict
 use Rattle.history.specs.declared.ask.Ask.{Ask}
 use Rattle.history.specs.declared.ask.Ask.TheVariants as ask
-
--- a reply without a violation
-abbrev pub clean : Plain → Option Prov → Reply
-clean p carried = record { plain = p; carried = carried; verdict = verdict.Clean }
 
 -- the entries of one thread
 abbrev pub of_thread : ℕ → List Entry → List Entry

@@ -16,7 +16,8 @@ use Rattle.history.specs.declared.entry.Request.TheVariants as request
 use Rattle.bsan_ids.specs.declared.numbers.ThreadNo.{ThreadNo}
 use Rattle.history.specs.declared.trap.Trap.{Trap}
 use Rattle.history.specs.declared.trap.Trap.TheVariants as trap
-use Rattle.runs.specs.Parts.{clean, Answers}
+use Rattle.history.specs.Objects.{clean}
+use Rattle.runs.specs.Parts.{Answers}
 use Rattle.runs.specs.Machine.{Machine, Memory, MayGoOn, SettlesWithin}
 use Rattle.runs.specs.Threads.{AsksStep, AsksMake, AsksSpawn, IsOwnTrap, EndsAs}
 use Rattle.runs.specs.Interleaving.{Allowed}

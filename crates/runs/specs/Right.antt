@@ -9,7 +9,7 @@ use Rattle.bsan_ids.specs.declared.numbers.Counters.{Counters}
 use Rattle.history.specs.declared.log.End.{End}
 use Rattle.history.specs.declared.log.End.TheVariants as log_end
 use Rattle.history.specs.declared.entry.Entry.{Entry}
-use Rattle.history.specs.Histories as histories
+use Rattle.history.specs.Histories.{is_make_step}
 use Rattle.bsan_ids.specs.declared.numbers.Limits.{Limits}
 use Rattle.history.specs.declared.ask.MachineEnd.TheVariants as end
 use Rattle.history.specs.declared.entry.Plain.{Plain}
@@ -163,9 +163,6 @@ alloc_numbers log = flat_map (λ e. made_by e.reply.plain) log.entries ++ alloc_
 abbrev pub thread_numbers : ThreadLog → List ℕ
 thread_numbers log = flat_map (λ e. spawned_by_reply e.reply.plain) log.entries ++ thread_limit_of log.«end»
 
-abbrev pub is_make : Entry → Bool
-is_make e = histories.is_make e.request
-
 abbrev pub is_spawn : Entry → Bool
 is_spawn e = is_spawn_request e.request where
   is_spawn_request : Request → Bool
@@ -201,7 +198,7 @@ pub record HasCounts (M : Machine) (limits : Limits) (starts : ℕ → M.State) 
   pub stamps : words.stamps ≡ length (merged logs) + length (beyond logs)
   pub above : IsPermutation (beyond logs) (counting_from (limits.steps + 1) (length (beyond logs)))
   pub full : 0 < length (beyond logs) → length (merged logs) ≡ limits.steps
-  pub allocs : DrawnAtMost M asks_make is_make limits starts logs words.allocs
+  pub allocs : DrawnAtMost M asks_make is_make_step limits starts logs words.allocs
   pub threads : DrawnAtMost M asks_spawn is_spawn limits starts logs words.threads
   pub made_within : All (λ n. n ≤ words.allocs) (flat_map alloc_numbers logs)
   pub made_differ : IsDistinct nat_eq (flat_map alloc_numbers logs)

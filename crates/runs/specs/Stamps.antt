@@ -10,7 +10,8 @@ use Rattle.bsan_ids.specs.declared.numbers.ThreadNo.{ThreadNo}
 use Rattle.history.specs.declared.entry.Request.{Request}
 use Rattle.history.specs.declared.entry.Request.TheVariants as request
 use Rattle.history.specs.declared.entry.Plain.TheVariants as plain
-use Rattle.runs.specs.Parts.{clean, child_of}
+use Rattle.history.specs.Objects.{clean}
+use Rattle.runs.specs.Parts.{child_of}
 use Rattle.runs.specs.Interleaving.{Allowed}
 
 -- the entry is one of these

@@ -16,7 +16,8 @@ use Rattle.history.specs.declared.log.AllocLog.{AllocLog}
 use Rattle.history.specs.declared.log.End.{End}
 use Rattle.history.specs.declared.log.End.TheVariants as log_end
 use Rattle.history.specs.declared.log.ThreadLog.{ThreadLog}
-use Rattle.runs.specs.Parts.{clean, child_of, of_alloc}
+use Rattle.history.specs.Objects.{clean}
+use Rattle.runs.specs.Parts.{child_of, of_alloc}
 use Rattle.runs.specs.Machine.{Machine, Memory}
 use Rattle.runs.specs.Interleaving.{Allowed, Legal}
 use Rattle.runs.specs.Threads.{IsThreadRun}

@@ -10,7 +10,7 @@ use Rattle.history.specs.declared.entry.Entry.{Entry}
 use Rattle.history.specs.declared.entry.Request.{Request}
 use Rattle.history.specs.declared.entry.Request.TheVariants as request
 use Rattle.history.specs.Objects.{Object, unmade, answer}
-use Rattle.history.specs.Histories.{replay, fits}
+use Rattle.history.specs.Histories.{replay, fits, is_make_step}
 use Rattle.history.specs.Histories as histories
 use Rattle.history.specs.declared.log.AllocLog.{AllocLog}
 use Rattle.history.specs.Records.{violates, is_violation}
@@ -31,7 +31,7 @@ use Rattle.runs.specs.Parts.{names, of_alloc}
 use Rattle.runs.specs.Stamps.{Has}
 use Rattle.runs.specs.Interleaving.{Legal, MakesUnmade}
 use Rattle.runs.specs.Objects.{objects}
-use Rattle.runs.specs.Right.{Numbered, made_by, spawned_by_reply, counting_from, is_make}
+use Rattle.runs.specs.Right.{Numbered, made_by, spawned_by_reply, counting_from}
 use Rattle.small_run.specs.Steps.{IsOwnEntry, IsPart, ArePartsFrom, AreKept, Steps, entry_behind, reply_behind, object_behind, entry_on, alloc_log, longer, with_step, with_make, IsTaken, Takes, IsStep}
 use Rattle.small_run.proofs.Given.{answer_names}
 
@@ -220,7 +220,7 @@ kept_step es logs k l site r h at within other fitting =
           ∙ ap (λ (ns : List ℕ). flat_map (λ (x : Entry). made_by x.reply.plain) es ++ (ns ++ [])) plain.allocs
           ∙ append-nil (flat_map (λ (x : Entry). made_by x.reply.plain) es)
           ∙ h.made ∙ ap (counting_from 1) (sym count);
-      makes = count_more is_make es e (length (slice_set logs k (longer l e))) (omega (arith, count, h.makes));
+      makes = count_more is_make_step es e (length (slice_set logs k (longer l e))) (omega (arith, count, h.makes));
     }
 
 none_named : (es : List Entry) (n a : ℕ) → ((x : Entry) → Has es x → IsOwnEntry n x) → n < a → of_alloc a es ≡ []
@@ -270,7 +270,7 @@ kept_make es logs number site size h is fitting =
           ∙ ap (λ (n : ℕ). counting_from 1 (length logs) ++ n ∷ []) where_
           ∙ sym (counting_push 1 (length logs)) ∙ ap (counting_from 1) (sym count);
       makes =
-          let more : count_by is_make (es ++ e ∷ []) ≡ count_by is_make es + 1 = count_push is_make es e in
+          let more : count_by is_make_step (es ++ e ∷ []) ≡ count_by is_make_step es + 1 = count_push is_make_step es e in
           omega (arith, more, count, h.makes);
     }
 

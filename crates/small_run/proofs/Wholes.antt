@@ -15,7 +15,7 @@ use Rattle.history.specs.declared.entry.Entry.{Entry}
 use Rattle.history.specs.declared.entry.Plain.{Plain}
 use Rattle.history.specs.declared.entry.Request.{Request}
 use Rattle.history.specs.declared.entry.Request.TheVariants as request
-use Rattle.history.specs.Histories.{fits}
+use Rattle.history.specs.Histories.{fits, is_make_step}
 use Rattle.history.specs.Merge.{put_by_stamp, stamp_of}
 use Rattle.history.specs.Objects.{unmade}
 use Rattle.ir_ast.specs.declared.program.Program.{Program}
@@ -31,7 +31,7 @@ use Rattle.runs.specs.Stamps.{Has, RisesFrom}
 use Rattle.runs.specs.Merge.{merged, merged_with, IsOwn, MayMerge, no_logs, one_more, IsMerge}
 use Rattle.runs.specs.Interleaving.{Legal}
 use Rattle.runs.specs.Objects.{objects}
-use Rattle.runs.specs.Right.{HasLog, IsReached, is_main, HasThreads, HasRuns, HasHistories, HasCounts, Numbered, AllocsRiseFrom, history_of, counting_from, made_by, spawned_by_reply, alloc_limit_of, thread_limit_of, alloc_numbers, thread_numbers, beyond, beyond_of, is_make}
+use Rattle.runs.specs.Right.{HasLog, IsReached, is_main, HasThreads, HasRuns, HasHistories, HasCounts, Numbered, AllocsRiseFrom, history_of, counting_from, made_by, spawned_by_reply, alloc_limit_of, thread_limit_of, alloc_numbers, thread_numbers, beyond, beyond_of}
 use Rattle.runs.specs.Threads.{IsThreadRun}
 use Rattle.runs.specs.Tree.{IsEntryRight}
 use Rattle.runs.specs.Theorem.{HasPromises}
@@ -393,7 +393,7 @@ has_counts program es allocs site e words run same are =
     let started : flat_map thread_numbers (main ∷ []) ≡ [] =
     append-nil (thread_numbers main) ∙ ap (λ (l : List ℕ). flat_map (λ (x : Entry). spawned_by_reply x.reply.plain) es ++ l) none.threads
     ∙ append-nil (flat_map (λ (x : Entry). spawned_by_reply x.reply.plain) es) ∙ spawns_none es (length allocs) run.kept.own in
-    let makes : count_by is_make (merged (main ∷ [])) ≡ count_by is_make es = ap (count_by is_make) same in
+    let makes : count_by is_make_step (merged (main ∷ [])) ≡ count_by is_make_step es = ap (count_by is_make_step) same in
     record {
       stamps = omega (arith, stamps, size, zero_);
       above = subst (λ (l : List ℕ). IsPermutation l (counting_from 1000001 (length l))) (sym nothing) (IsPermutation-refl []);

@@ -11,7 +11,7 @@ use Rattle.history.specs.declared.entry.Reply.{Reply}
 use Rattle.history.specs.declared.entry.Request.{Request}
 use Rattle.history.specs.declared.entry.Request.TheVariants as request
 use Rattle.history.specs.Objects.{Object, unmade, answer}
-use Rattle.history.specs.Histories.{replay, fits}
+use Rattle.history.specs.Histories.{replay, fits, is_make_step}
 use Rattle.ir_ast.specs.declared.types.Place.TheVariants.{Stack}
 use Rattle.alloc_state.specs.Log.{Log}
 use Rattle.history.specs.declared.log.AllocLog.{AllocLog}
@@ -20,7 +20,7 @@ use Rattle.history.specs.Records.{violates}
 use Rattle.runs.specs.Interleaving.{Legal}
 use Rattle.runs.specs.Objects.{objects}
 use Rattle.runs.specs.Parts.{of_alloc}
-use Rattle.runs.specs.Right.{Numbered, made_by, spawned_by_reply, counting_from, is_make}
+use Rattle.runs.specs.Right.{Numbered, made_by, spawned_by_reply, counting_from}
 use Rattle.runs.specs.Stamps.{Has}
 use Rattle.history.specs.Replies.{trap_of}
 use Rattle.thread_parts.specs.Words.{number_in}
@@ -132,4 +132,4 @@ pub record AreKept (entries : List Entry) (logs : List AllocLog) : Type 0 where
   pub own : (e : Entry) → Has entries e → IsOwnEntry (length logs) e
   pub parts : ArePartsFrom 1 entries logs
   pub made : flat_map (λ e. made_by e.reply.plain) entries ≡ counting_from 1 (length logs)
-  pub makes : length logs ≤ count_by is_make entries
+  pub makes : length logs ≤ count_by is_make_step entries

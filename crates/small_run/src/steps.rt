@@ -1,8 +1,8 @@
 //! The steps of one thread over its allocations.
 ghost use Rattle.std.specs.Prelude.{◌≡◌, ◌+◌, ◌<◌, ◌≤◌, ◌^◌, [], ◌∷◌, ◌++◌, IsTrue, All, OnOk, OnErr, IfOk, true, false, length};
-ghost use Rattle.history.specs.Histories.{fits, is_make};
+ghost use Rattle.history.specs.Histories.{fits, is_make, HasBytes};
 ghost use Rattle.history.specs.declared.entry.Request.TheVariants as request;
-ghost use Rattle.alloc_state.specs.Log.{has_make, HasBytes};
+ghost use Rattle.alloc_state.specs.Log.{has_make};
 ghost use Rattle.ir_ast.specs.declared.types.Place.TheVariants.{Stack};
 ghost use Rattle.thread_parts.specs.Parts as spec_parts;
 ghost use Rattle.small_run.specs.declared.steps.Halt.TheVariants.{NoMemory};

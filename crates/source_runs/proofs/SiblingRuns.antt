@@ -5,7 +5,7 @@ use Rattle.history.specs.declared.entry.Plain.TheVariants as plain
 use Rattle.history.specs.declared.entry.Verdict.TheVariants as verdict
 use Rattle.perm_table.specs.declared.Perm.TheVariants.{Disabled}
 use Rattle.eager_tree.specs.declared.violation.Violation.TheVariants.{Denied}
-use Rattle.runs.specs.Parts.{clean}
+use Rattle.history.specs.Objects.{clean}
 use Rattle.source_sem.specs.Source.{Source, source_turn, source_answer}
 use Rattle.source_sem.specs.Traces.{sibling, alloc, tag, prov}
 use Rattle.source_runs.specs.Sibling.{start, bare, plain_start, IsErasedRun}

@@ -24,7 +24,8 @@ use Rattle.history.specs.declared.entry.Verdict.TheVariants as verdict
 use Rattle.history.specs.declared.log.AllocLog.{AllocLog}
 use Rattle.history.specs.declared.log.End.TheVariants as log_end
 use Rattle.history.specs.declared.log.ThreadLog.{ThreadLog}
-use Rattle.runs.specs.Parts.{clean, of_thread, of_alloc, names, child_of}
+use Rattle.history.specs.Objects.{clean}
+use Rattle.runs.specs.Parts.{of_thread, of_alloc, names, child_of}
 use Rattle.runs.specs.Machine.{TurnsTo}
 use Rattle.runs.specs.Threads.{IsThreadRun}
 use Rattle.runs.specs.Interleaving.{Event, HasReturned, Legal, World, first_world, world_after}

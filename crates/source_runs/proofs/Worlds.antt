@@ -30,7 +30,7 @@ use Rattle.runs.specs.Machine.{TurnsTo}
 use Rattle.runs.specs.ReplayLaw.{record_of, FitsAlways}
 use Rattle.runs.proofs.ObjectLaws.{objects_make_alone}
 use Rattle.runs.proofs.ReplayRight.{replay_is_right}
-use Rattle.ir_ast.specs.HostAnswers.{Allows}
+use Rattle.ir_ast.specs.HostAnswers.{Allows, MayAnswer}
 use Rattle.ir_ast.specs.declared.hosts.HostEntry.{HostEntry}
 use Rattle.ir_ast.specs.declared.hosts.HostRule.{HostRule}
 use Rattle.ir_ast.specs.declared.hosts.HostRule.TheVariants.{Min, Max, Popcount, ByteSwap, Any}
@@ -39,7 +39,7 @@ use Rattle.runs.specs.Objects.{objects}
 use Rattle.runs.specs.Parts.{Answers, IsOnNumber, names, child_of, spawned_by, is_child}
 use Rattle.source_runs.proofs.JoinsAccepted.{accepted_programs_join}
 use Rattle.source_sem.specs.Starting.{setting_of, main_of, main_start, ArgsFit}
-use Rattle.source_runs.specs.Setting.{MayAnswer, allowed}
+use Rattle.source_runs.specs.Setting.{allowed}
 use Rattle.source_sem.specs.Joining.{StartsNoMain, JoinLaw, ThreadStands}
 use Rattle.thread_parts.specs.Words.{number_in}
 use Rattle.thread_parts.specs.Fits.{ReplyFits, JoinFits, ValueFits}

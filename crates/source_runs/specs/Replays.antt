@@ -23,7 +23,7 @@ use Rattle.eager_tree.specs.declared.violation.Violation.TheVariants.{Denied}
 use Rattle.runs.specs.Objects.{objects}
 use Rattle.runs.specs.Replay.{Progress, IsReplay}
 use Rattle.runs.specs.ReplayLaw.{first_progress}
-use Rattle.runs.specs.Parts.{clean}
+use Rattle.history.specs.Objects.{clean}
 use Rattle.source_sem.specs.Source.{source}
 use Rattle.source_sem.specs.Starting.{setting_of, main_name, main_of, main_start}
 use Rattle.source_sem.specs.Traces.{named, no_result, gives, ptr_param, mut_param, reg, number, def, does, block, function, ret_void, ret_of, prov, alloc, tag}

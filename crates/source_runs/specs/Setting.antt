@@ -1,10 +1,9 @@
 -- The runs of a program with its input, its limits and its table of host functions, and the records that are right for them.
 use Rattle.std.specs.Prelude.{ℕ, List, Option, Some, None, slice_get}
 use Rattle.bsan_ids.specs.declared.numbers.Limits.{Limits}
-use Rattle.ir_ast.specs.declared.hosts.HostEntry.{HostEntry}
 use Rattle.ir_ast.specs.declared.hosts.HostTable.{HostTable}
 use Rattle.ir_ast.specs.declared.program.Program.{Program}
-use Rattle.ir_ast.specs.HostAnswers.{Allows}
+use Rattle.ir_ast.specs.HostAnswers.{MayAnswer}
 use Rattle.history.specs.declared.record.RunRecord.{RunRecord}
 use Rattle.runs.specs.Interleaving.{Allowed}
 use Rattle.runs.specs.Objects.{objects}
@@ -12,11 +11,6 @@ use Rattle.runs.specs.PlainObjects.{plain_objects}
 use Rattle.runs.specs.Right.{IsRight, ErasesToPlainRun}
 use Rattle.source_sem.specs.Source.{source, plain_setting}
 use Rattle.source_sem.specs.Starting.{setting_of, main_of, main_start}
-
--- a word that a host function may answer; what isn't in the table answers nothing
-abbrev pub MayAnswer : Option HostEntry → ℕ → ℕ → ℕ → Type 0
-MayAnswer None first second answer = ⊥
-MayAnswer (Some h) first second answer = Allows h.rule first second answer
 
 abbrev pub allowed : Limits → HostTable → Allowed
 allowed limits hosts = record { allocs = limits.allocs; host = λ n first second answer. MayAnswer (slice_get hosts.entries n) first second answer }

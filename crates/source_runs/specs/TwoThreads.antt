@@ -24,10 +24,10 @@ use Rattle.history.specs.declared.log.End.TheVariants as log_end
 use Rattle.history.specs.declared.log.ThreadLog.{ThreadLog}
 use Rattle.history.specs.declared.record.RunRecord.{RunRecord}
 use Rattle.runs.specs.Interleaving.{Legal}
-use Rattle.runs.specs.Merge.{merged, MayMerge}
+use Rattle.runs.specs.Merge.{merged, MayMerge, entries_of}
 use Rattle.runs.specs.Objects.{objects}
-use Rattle.runs.specs.Parts.{clean, of_thread, of_alloc, child_of}
-use Rattle.runs.specs.Merge.{entries_of}
+use Rattle.history.specs.Objects.{clean}
+use Rattle.runs.specs.Parts.{of_thread, of_alloc, child_of}
 use Rattle.runs.specs.Right.{HasLog, HasThreads, MergesToRun, AllocsRiseFrom, history_of, end_of}
 use Rattle.runs.specs.Stamps.{Has, RisesFrom}
 use Rattle.runs.specs.Theorem.{HasPromises}

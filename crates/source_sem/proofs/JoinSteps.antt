@@ -27,7 +27,8 @@ use Rattle.ir_ast.specs.declared.program.Program.{Program}
 use Rattle.source_sem.specs.Env.{Env, value_in, with_value, put, put_some}
 use Rattle.ir_ast.specs.Arithmetic.{Worked, word, div_zero, shift_too_far, worked}
 use Rattle.thread_parts.specs.Parts.{Part, Step, Gives, Fails, Steps, Retags, Copies, Calls, Joins, Makes, Accesses, Prints, Hosts, Spawns, part_ask, step_ask, step_result, worked_part, make_by, retag_part, copy_by, call_part, retag_ask}
-use Rattle.thread_parts.specs.Owned.{Owned, step_owned, without, protect, Made, with_stack, release_by, released_by}
+use Rattle.bsan_ids.specs.Lists.{without}
+use Rattle.thread_parts.specs.Owned.{Owned, step_owned, protect, Made, with_stack, release_by, released_by}
 use Rattle.history.specs.Replies.{trap_of}
 use Rattle.thread_parts.specs.Words.{number_in}
 use Rattle.history.specs.declared.trap.Trap.{Trap}

@@ -41,7 +41,8 @@ use Rattle.ir_ast.specs.Words.{bits}
 use Rattle.source_sem.specs.Env.{Env, value_in, operand, arg_of, args_of, with_value, bind, put, put_some}
 use Rattle.thread_parts.specs.Parts.{Part, Gives, Steps, Retags, Copies, Calls, Joins, Accesses, Prints, Spawns, Loads, Stores, Modifies, Compares, Frees, part_ask, retag_ask, step_started, step_result, moved, binary_part, compared, chosen, cast_arg, input_arg, make_part, makes_step, retag_part, copy_part, call_part, host_part, join_part}
 use Rattle.thread_parts.specs.Copies.{Progress, untouched, copy_ask, copy_after, copy_done}
-use Rattle.thread_parts.specs.Owned.{Owned, nothing_owned, release_ask, released, protect, without, step_owned}
+use Rattle.bsan_ids.specs.Lists.{without}
+use Rattle.thread_parts.specs.Owned.{Owned, nothing_owned, release_ask, released, protect, step_owned}
 use Rattle.thread_parts.specs.Fits.{ReplyFits}
 
 -- the program, its input, the hosts' names, and whether provenance is kept: without it this is the plain program

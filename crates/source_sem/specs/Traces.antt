@@ -29,7 +29,7 @@ use Rattle.history.specs.declared.entry.Plain.TheVariants as plain
 use Rattle.history.specs.declared.entry.Reply.{Reply}
 use Rattle.history.specs.declared.entry.Request.TheVariants as request
 use Rattle.history.specs.Pieces.{Byte}
-use Rattle.runs.specs.Parts.{clean}
+use Rattle.history.specs.Objects.{clean}
 use Rattle.source_sem.specs.Source.{Setting, Source, source_ask, source_turn, source_answer, source_site, source_start}
 
 -- what a thread is given: nothing, where it makes a local turn, or a reply

@@ -1,5 +1,5 @@
 -- What a frame owns, and in which order it gives that up.
-use Rattle.std.specs.Prelude.{ℕ, List, [], ◌∷◌, Some, None, if◌then◌else◌, ◌++◌, true, nat_eq}
+use Rattle.std.specs.Prelude.{ℕ, List, [], ◌∷◌, Some, None, ◌++◌, true}
 use Rattle.std.specs.declared.option.Option.{Option}
 use Rattle.bsan_ids.specs.declared.numbers.Prov.{Prov}
 use Rattle.bsan_ids.specs.declared.numbers.AllocNo.{AllocNo}
@@ -51,10 +51,6 @@ released o = released_by o.children o.protectors o.stack
 abbrev pub protect : Plain → Option Prov → Owned → Owned
 protect (plain.Retagged true) (Some p) o = record o { protectors = o.protectors ++ p ∷ [] }
 protect other carried o = o
-
-abbrev pub without : ℕ → List ℕ → List ℕ
-without c [] = []
-without c (d ∷ ds) = if nat_eq c d then ds else d ∷ without c ds
 
 abbrev pub with_stack : Place → Made → Owned → Owned
 with_stack Heap m o = o

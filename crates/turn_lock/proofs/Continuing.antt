@@ -8,7 +8,8 @@ use Rattle.bsan_ids.specs.declared.numbers.NoMemory.{NoMemory}
 use Rattle.bsan_ids.specs.declared.numbers.Stamp.{Stamp}
 use Rattle.bsan_ids.specs.declared.numbers.ThreadNo.{ThreadNo}
 use Rattle.history.specs.declared.entry.Entry.{Entry}
-use Rattle.turn_lock.specs.Weights.{stamp_of, is_make}
+use Rattle.history.specs.Merge.{stamp_of}
+use Rattle.history.specs.Histories.{is_make_step}
 use Rattle.turn_lock.specs.Steps.{saw, called}
 use Rattle.turn_lock.specs.Plays.{DeskView}
 use Rattle.turn_lock.specs.Journals.{Answers, Calls}
@@ -62,7 +63,7 @@ module _ (thread : ThreadNo) (alloc : AllocNo) where
         threads = All-push (λ (f : Entry). f.thread ≡ thread) r.more e r.threads made.1.thread_is;
         allocs = All-push (λ (f : Entry). f.alloc ≡ Some alloc) r.more e r.allocs made.1.alloc_is;
         sites = map-append (λ (f : Entry). f.site) r.more (e ∷ []) ∙ (ap (λ l. l ++ e.site ∷ []) r.sites ∙ site_more n e.site made.1.site_is);
-        no_makes = All-push (λ (f : Entry). is_make f ≡ false) r.more e r.no_makes made.1.no_make;
+        no_makes = All-push (λ (f : Entry). is_make_step f ≡ false) r.more e r.no_makes made.1.no_make;
       }
 
   pub call_refused : (n site : ℕ) (why : NoMemory) (old mid new : DeskView) → Calls thread alloc n old mid → Answers thread site alloc mid new (Err why) → Calls thread alloc n old new

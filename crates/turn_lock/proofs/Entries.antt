@@ -4,7 +4,9 @@ use Rattle.std.proofs.lemmas.Bool.Decides.{eqb_tells}
 use Rattle.std.proofs.lemmas.List.Elements.{All-cons, All-nil}
 use Rattle.std.proofs.lemmas.List.Quantifiers.{all_pairs_push}
 use Rattle.history.specs.declared.entry.Entry.{Entry}
-use Rattle.turn_lock.specs.Weights.{stamp_of, number_of, is_make, naming, makes, latest}
+use Rattle.history.specs.Merge.{stamp_of}
+use Rattle.history.specs.Histories.{is_make_step}
+use Rattle.turn_lock.specs.Weights.{number_of, naming, makes, latest}
 use Rattle.turn_lock.specs.Rule.{Rising}
 
 pub latest_bounds : (es : List Entry) → All (λ e. stamp_of e ≤ latest es) es
@@ -31,19 +33,19 @@ pub naming_else : (n m : ℕ) (h : Entry → ℕ) (e : Entry) → number_of e �
 naming_else n m h e named apart = ⊎_elim (λ t. absurd (apart (sym named ∙ t.0))) (λ t. t.1) (naming_cases n h e)
 
 pub makes_else : (n m : ℕ) (e : Entry) → number_of e ≡ m → m ≢ n → makes n e ≡ 0
-makes_else n m e named apart = ⊎_elim (λ t. absurd (apart (sym named ∙ t.1))) (λ t. split (is_make e) (eqb (number_of e) n) t.0) (eqb_tells (number_of e) n)
+makes_else n m e named apart = ⊎_elim (λ t. absurd (apart (sym named ∙ t.1))) (λ t. split (is_make_step e) (eqb (number_of e) n) t.0) (eqb_tells (number_of e) n)
   where
     split : (a b : Bool) → b ≡ false → cond {A = ℕ} a (cond b 1 0) 0 ≡ 0
     split true b e = ap (λ c. cond c 1 0) e
     split false b e = refl
 
 pub makes_le : (n : ℕ) (e : Entry) → makes n e ≤ 1
-makes_le n e = split (is_make e) (eqb (number_of e) n)
+makes_le n e = split (is_make_step e) (eqb (number_of e) n)
   where
     split : (a b : Bool) → cond {A = ℕ} a (cond b 1 0) 0 ≤ 1
     split true true = omega arith
     split true false = omega arith
     split false b = omega arith
 
-pub makes_none : (n : ℕ) (e : Entry) → is_make e ≡ false → makes n e ≡ 0
+pub makes_none : (n : ℕ) (e : Entry) → is_make_step e ≡ false → makes n e ≡ 0
 makes_none n e no_make = ap (λ b. cond b (cond (eqb (number_of e) n) 1 0) 0) no_make

@@ -6,7 +6,7 @@ use Rattle.std.proofs.lemmas.List.Sums.{sum_by-cons}
 use Rattle.std.proofs.lemmas.List.Elements.{All-head, All-tail}
 use Rattle.history.specs.declared.entry.Entry.{Entry}
 use Rattle.history.specs.contracts.entry.Entry.{the_row}
-use Rattle.turn_lock.specs.Weights.{stamp_of}
+use Rattle.history.specs.Merge.{stamp_of}
 use Rattle.turn_lock.specs.Laws.{WeightsTellHistories}
 
 module _ {X : Type 0} (stamp : X → ℕ) (same : (x y : X) → Dec (x ≡ y)) where

@@ -4,7 +4,7 @@ use Rattle.std.proofs.lemmas.Bool.Decides.{eqb_tells}
 use Rattle.std.proofs.lemmas.List.Sums.{sum_by-cons, get_or-le-sum_by}
 use Rattle.std.proofs.lemmas.List.Elements.{All-head, All-tail, All-cons}
 use Rattle.turn_lock.specs.Weights.{equals}
-use Rattle.turn_lock.specs.Steps.{without}
+use Rattle.bsan_ids.specs.Lists.{without}
 use Rattle.turn_lock.proofs.Numbers.{equals_same, equals_cases}
 
 pub contained : (xs : List ℕ) (n : ℕ) → Contains xs n → 1 ≤ sum_by (equals n) xs

@@ -2,7 +2,7 @@
 use Rattle.std.proofs.Common.{◌≡◌, ℕ, zero, suc, ◌≤◌, ◌⊎◌, inl, inr, ⊎_elim, Some, None, slice_get, cond, eq-eqb, List, [], ◌∷◌, ◌++◌, length, All, Contains, refl, sym, ap, ◌∙◌, subst, arith}
 use Rattle.std.proofs.lemmas.List.Elements.{All-push, All-nil}
 use Rattle.history.specs.declared.entry.Entry.{Entry}
-use Rattle.turn_lock.specs.Steps.{without}
+use Rattle.bsan_ids.specs.Lists.{without}
 use Rattle.turn_lock.specs.Closing.{AreBlank}
 
 -- a list that begins with n, and that list without it

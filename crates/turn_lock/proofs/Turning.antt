@@ -4,7 +4,9 @@ use lib.Seq.{drop-append_seam}
 use Rattle.history.specs.declared.entry.Entry.{Entry}
 use Rattle.turn_lock.specs.declared.view.HeldTurn.{HeldTurn}
 use Rattle.turn_lock.specs.declared.view.View.{View}
-use Rattle.turn_lock.specs.Weights.{stamp_of, number_of, is_make, latest}
+use Rattle.history.specs.Merge.{stamp_of}
+use Rattle.history.specs.Histories.{is_make_step}
+use Rattle.turn_lock.specs.Weights.{number_of, latest}
 use Rattle.turn_lock.specs.Steps.{draws, took, gave, drew_stamp, held_turn, saw, called}
 use Rattle.turn_lock.specs.Plays.{Extends, IsFresh}
 
@@ -26,11 +28,11 @@ module _ (v w : View) (k : ℕ) (es after : List Entry) (alloc : ℕ) (slot : su
   pub gives_stamped : (n : ℕ) → w ≡ drew_stamp (took v k es) n → after ≡ es → MayGive w alloc after
   gives_stamped n is same = subst (λ (u : View). MayGive u alloc after) (sym is) (record { slot = k; taken = es; since = n ∷ [] }, refl, slot, inl same)
 
-  pub gives_call : (e : Entry) → w ≡ drew_stamp (took v k es) (stamp_of e) → after ≡ es ++ e ∷ [] → number_of e ≡ alloc → (is_make e ≡ true → IsFresh v alloc) → MayGive w alloc after
+  pub gives_call : (e : Entry) → w ≡ drew_stamp (took v k es) (stamp_of e) → after ≡ es ++ e ∷ [] → number_of e ≡ alloc → (is_make_step e ≡ true → IsFresh v alloc) → MayGive w alloc after
   gives_call e is same names fresh = subst (λ (u : View). MayGive u alloc after) (sym is)
       (record { slot = k; taken = es; since = stamp_of e ∷ [] }, refl, slot, inr (e, same, (0, omega arith, refl), names ∙ sym slot, λ make. subst (IsFresh v) (sym slot) (fresh make)))
 
-pub never_makes : (v : View) (n : ℕ) (e : Entry) → is_make e ≡ false → is_make e ≡ true → IsFresh v n
+pub never_makes : (v : View) (n : ℕ) (e : Entry) → is_make_step e ≡ false → is_make_step e ≡ true → IsFresh v n
 never_makes v n e no_make make = absurd (clash (sym make ∙ no_make))
 
 nothing_beyond : (calls es : List Entry) → calls ++ drop (length es) es ≡ calls

@@ -9,7 +9,8 @@ use Rattle.bsan_ids.specs.declared.numbers.ThreadNo.{ThreadNo}
 use Rattle.history.specs.declared.entry.Entry.{Entry}
 use Rattle.turn_lock.specs.declared.journal.Journal.{Journal}
 use Rattle.turn_lock.specs.Closing.{AreBlank}
-use Rattle.turn_lock.specs.Weights.{stamp_of, is_make}
+use Rattle.history.specs.Merge.{stamp_of}
+use Rattle.history.specs.Histories.{is_make_step}
 use Rattle.turn_lock.specs.Steps.{drew_thread, parted, child_of, saw, called}
 use Rattle.turn_lock.specs.Plays.{DeskView}
 
@@ -23,7 +24,7 @@ pub record IsCall (thread : ThreadNo) (site : ℕ) (alloc : AllocNo) (stamp : St
   pub site_is : e.site ≡ site
   pub alloc_is : e.alloc ≡ Some alloc
   pub stamp_is : e.stamp ≡ stamp
-  pub no_make : is_make e ≡ false
+  pub no_make : is_make_step e ≡ false
 
 -- One call: its entry is the desk's, with a stamp above all that the desk had seen. Where memory is wanting, the desk has seen the stamps of the journal's entries, and made no call.
 abbrev pub Answers : ThreadNo → ℕ → AllocNo → DeskView → DeskView → Result Stamp NoMemory → Type 0
@@ -49,7 +50,7 @@ pub record Calls (thread : ThreadNo) (alloc : AllocNo) (count : ℕ) (old new : 
   pub threads : All (λ (e : Entry). e.thread ≡ thread) more
   pub allocs : All (λ (e : Entry). e.alloc ≡ Some alloc) more
   pub sites : map (λ (e : Entry). e.site) more ≡ range_with_len 0 count
-  pub no_makes : All (λ (e : Entry). is_make e ≡ false) more
+  pub no_makes : All (λ (e : Entry). is_make_step e ≡ false) more
 
 -- a desk of this table that drew nothing and from which none was split
 abbrev pub IsNew : TableId → DeskView → Type 0

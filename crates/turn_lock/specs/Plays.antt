@@ -5,7 +5,9 @@ use Rattle.atomic_table.specs.Seated.{TableId}
 use Rattle.history.specs.declared.entry.Entry.{Entry}
 use Rattle.turn_lock.specs.declared.view.HeldTurn.{HeldTurn}
 use Rattle.turn_lock.specs.declared.view.View.{View}
-use Rattle.turn_lock.specs.Weights.{stamp_of, number_of, is_make, naming, equals, makes, alloc_weight}
+use Rattle.history.specs.Merge.{stamp_of}
+use Rattle.history.specs.Histories.{is_make_step}
+use Rattle.turn_lock.specs.Weights.{number_of, naming, equals, makes, alloc_weight}
 use Rattle.turn_lock.specs.Rule.{Rising}
 use Rattle.turn_lock.specs.Steps.{drew_stamp, drew_alloc, drew_thread, chose, took, gave}
 
@@ -42,7 +44,7 @@ IsFresh v n = (1 ≤ alloc_weight (equals n) v) × (sum_by (makes n) v.calls ≡
 
 -- the entries with which a turn is given back: those that were taken, or those and one call of a stamp that was drawn since
 abbrev pub Extends : View → HeldTurn → List Entry → Type 0
-Extends v t es = (es ≡ t.taken) ⊎ ((e : Entry) × (es ≡ t.taken ++ e ∷ []) × Contains t.since (stamp_of e) × (number_of e ≡ suc t.slot) × (is_make e ≡ true → IsFresh v (suc t.slot)))
+Extends v t es = (es ≡ t.taken) ⊎ ((e : Entry) × (es ≡ t.taken ++ e ∷ []) × Contains t.since (stamp_of e) × (number_of e ≡ suc t.slot) × (is_make_step e ≡ true → IsFresh v (suc t.slot)))
 
 -- Of a value that was taken: its entries rise, all calls of the desk on this number are among them, and all that it was told of. Where the number is fresh, none is a Make.
 pub record Tells (n : ℕ) (v : View) (es : List Entry) : Type 0 where

@@ -7,7 +7,8 @@ use Rattle.history.specs.declared.entry.Entry.{Entry}
 use Rattle.turn_lock.specs.declared.view.HeldTurn.{HeldTurn}
 use Rattle.turn_lock.specs.declared.view.Drawn.{Drawn}
 use Rattle.turn_lock.specs.declared.view.View.{View}
-use Rattle.turn_lock.specs.Weights.{stamp_of, sum_up_to, above, naming, makes, equals, stamp_weight, alloc_weight, thread_weight, name_weight, out_weight, call_weight, told_weight, turn_weight, latest}
+use Rattle.history.specs.Merge.{stamp_of}
+use Rattle.turn_lock.specs.Weights.{sum_up_to, above, naming, makes, equals, stamp_weight, alloc_weight, thread_weight, name_weight, out_weight, call_weight, told_weight, turn_weight, latest}
 
 abbrev pub nothing : Drawn
 nothing = record { own = []; joined = [] }

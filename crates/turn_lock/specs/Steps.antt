@@ -1,10 +1,12 @@
 -- What each step makes of a view.
 use Rattle.std.specs.Prelude.{ℕ, cond, eqb, max, List, [], ◌∷◌, ◌++◌, length, drop, Option, Some, None}
+use Rattle.bsan_ids.specs.Lists.{without}
 use Rattle.history.specs.declared.entry.Entry.{Entry}
 use Rattle.turn_lock.specs.declared.view.HeldTurn.{HeldTurn}
 use Rattle.turn_lock.specs.declared.view.Drawn.{Drawn}
 use Rattle.turn_lock.specs.declared.view.View.{View}
-use Rattle.turn_lock.specs.Weights.{stamp_of, latest}
+use Rattle.history.specs.Merge.{stamp_of}
+use Rattle.turn_lock.specs.Weights.{latest}
 use Rattle.turn_lock.specs.Rule.{newcomer}
 
 abbrev pub draws : Drawn → ℕ → Drawn
@@ -23,11 +25,6 @@ drew_alloc v n = record v { allocs = draws v.allocs n }
 
 abbrev pub drew_thread : View → ℕ → View
 drew_thread v n = record v { threads = draws v.threads n }
-
--- the list without the first place where n stands
-abbrev pub without : ℕ → List ℕ → List ℕ
-without n [] = []
-without n (x ∷ xs) = cond (eqb x n) xs (x ∷ without n xs)
 
 -- the name of a desk that is split from it is out
 abbrev pub parted : View → ℕ → View

@@ -2,24 +2,19 @@
 use Rattle.std.specs.Prelude.{ℕ, zero, suc, ◌+◌, Bool, cond, eqb, leb, List, [], ◌∷◌, max, sum_by, Option, Some, None}
 use Rattle.history.specs.declared.entry.Entry.{Entry}
 use Rattle.bsan_ids.specs.declared.numbers.AllocNo.{AllocNo}
-use Rattle.history.specs.Histories as histories
+use Rattle.history.specs.Histories.{is_make_step}
+use Rattle.history.specs.Merge.{stamp_of}
 use Rattle.turn_lock.specs.declared.view.HeldTurn.{HeldTurn}
 use Rattle.turn_lock.specs.declared.view.Drawn.{Drawn}
 use Rattle.turn_lock.specs.declared.view.View.{View}
 
--- All that the rule sees of an entry: its stamp, the number that it names (0 where it names none), and whether it is a Make.
-abbrev pub stamp_of : Entry → ℕ
-stamp_of e = e.stamp.0
-
+-- the number that the entry names, 0 where it names none
 abbrev pub number_in : Option AllocNo → ℕ
 number_in None = 0
 number_in (Some a) = a.0
 
 abbrev pub number_of : Entry → ℕ
 number_of e = number_in e.alloc
-
-abbrev pub is_make : Entry → Bool
-is_make e = histories.is_make e.request
 
 -- the weights of the numbers from 1 to n, added up
 abbrev pub sum_up_to : (ℕ → ℕ) → ℕ → ℕ
@@ -43,7 +38,7 @@ naming n h e = cond (eqb (number_of e) n) (h e) 0
 
 -- 1 for a Make of this number
 abbrev pub makes : ℕ → Entry → ℕ
-makes n e = cond (is_make e) (cond (eqb (number_of e) n) 1 0) 0
+makes n e = cond (is_make_step e) (cond (eqb (number_of e) n) 1 0) 0
 
 module _ (h : ℕ → ℕ) where
   abbrev pub drawn : Drawn → ℕ

@@ -1,7 +1,8 @@
 use Rattle.std.proofs.Common.{◌≡◌, ℕ, ◌-◌, ◌∙◌, ◌++◌, ◌∷◌, [], ap, sym, arith}
 use Rattle.history.specs.declared.entry.Entry.{Entry}
 use Rattle.turn_lock.specs.declared.view.View.{View}
-use Rattle.turn_lock.specs.Weights.{stamp_of, number_in}
+use Rattle.history.specs.Merge.{stamp_of}
+use Rattle.turn_lock.specs.Weights.{number_in}
 use Rattle.turn_lock.specs.Steps.{drew_stamp, took}
 use Rattle.turn_lock.proofs.Turning.{gives_taken, gives_call, never_makes}
 use Rattle.turn_lock.proofs.journal.call.Goals as goal

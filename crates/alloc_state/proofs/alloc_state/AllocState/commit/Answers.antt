@@ -4,8 +4,8 @@ use Rattle.history.specs.declared.entry.Entry.{Entry}
 use Rattle.history.specs.declared.entry.Request.{Request}
 use Rattle.history.specs.declared.entry.Reply.{Reply}
 use Rattle.history.specs.Objects.{Object, answer, unmade}
-use Rattle.history.specs.Histories.{replay, is_make}
-use Rattle.alloc_state.specs.Log.{Log, has_make, HasBytes}
+use Rattle.history.specs.Histories.{replay, is_make, HasBytes}
+use Rattle.alloc_state.specs.Log.{Log, has_make}
 use Rattle.alloc_state.specs.Prepared.{Prepared, AreBelow}
 use Rattle.alloc_state.proofs.LongerHistory.{IsHistory-push, replay-push}
 use Rattle.alloc_state.proofs.TagsBelow.{AreBelow-replay}
