@@ -7,7 +7,7 @@ mod list_of;
 mod numbers;
 
 pub use addresses::{address, parts};
-pub use copied::Copied;
+pub use copied::{Copied, copy_vec};
 pub use list_of::ListOf;
 pub use numbers::{
     AllocNo, Counters, Frag, Limits, Name, NoMemory, Prov, Span, Stamp, Tag, ThreadNo,

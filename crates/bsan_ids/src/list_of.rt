@@ -2,7 +2,7 @@
 ghost use Rattle.std.specs.Prelude.{◌≡◌, [], ◌∷◌, ◌++◌, ◌<◌, ◌+◌, ◌≤◌, ◌↔◌, length, slice_get, slice_set, replicate, IsTrue, IfOk, OnOk, OnErr, OnSome};
 ghost use Rattle.std.specs.Option.{option_copied};
 
-use crate::copied::Copied;
+use crate::copied::{Copied, copy_vec};
 use crate::numbers::NoMemory;
 use std::alloc::Global;
 use std::marker::Model;
@@ -111,12 +111,9 @@ impl<T: Drop> ListOf<T> {
 
 impl<T: Copied + Drop> Copied for ListOf<T> {
     fn copy(&self) -> Result<ListOf<T>, NoMemory> {
-        let mut copies = Vec::with_capacity(*self.items.allocator(), self.items.len())?;
-        let items = self.items.as_slice();
-        for item in items {
-            copies.push(item.copy()?)?;
-        }
-        Ok(ListOf { items: copies })
+        Ok(ListOf {
+            items: copy_vec(&self.items)?,
+        })
     }
 }
 
