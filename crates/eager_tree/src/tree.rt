@@ -1,14 +1,13 @@
 //! The tree of one allocation, and its steps.
-ghost use Rattle.std.specs.Prelude.{◌≡◌, ◌+◌, ◌≤◌, ◌<◌, ◌↔◌, All, IsTrue, IfOk, IsOk, OnOk, OnErr, length};
+ghost use Rattle.std.specs.Prelude.{◌≡◌, ◌+◌, ◌≤◌, ◌<◌, ◌↔◌, All, IsTrue, IfOk, IsOk, OnOk, OnErr, length, [], ◌∷◌, ◌++◌, vec_len, vec_capacity};
+ghost use Rattle.eager_tree.specs.Sweeps.{visited};
 ghost use Rattle.eager_tree.specs.Tree.{new_tree, is_node, with_root};
 ghost use Rattle.eager_tree.specs.Steps.{access as access_of, retag as retag_of, end_protector as end_of, free_all as free_of};
 
 use crate::node::{Cell, Node};
-use crate::sweep::{
-    Sweep, are_older, cells_of, copy_of, fill, free_guard, holds_tag, strongly_held,
-};
-use bsan_ids::{ListOf, NoMemory, Span, Tag};
+use crate::sweep::{Sweep, are_older, cells_of, fill, free_guard, holds_tag, strongly_held};
 use crate::violation::Violation;
+use bsan_ids::{Copied, ListOf, NoMemory, Span, Tag, copy_vec};
 use perm_table::{Guard, Kind, Perm, RetagKind, start};
 use std::alloc::Global;
 use std::marker::Model;
@@ -36,6 +35,18 @@ impl Model for EagerTree {
     ghost invariant = { λ t. IsKept t.size t.nodes t.ready };
 }
 
+/// Does the visit through the node `parent` and appends a node, for which there is room.
+fn add_child(nodes: &mut Vec<Node>, sweep: Sweep, size: u32, parent: Tag, child: Node)
+    requires sized { All (λ n. length n.cells ≡ size) nodes.old.items }
+    requires room { vec_len nodes.old < vec_capacity nodes.old }
+    ensures items { nodes.new.items ≡ visited sweep parent nodes.old.items ++ child ∷ [] }
+    ensures len { vec_len nodes.new ≡ vec_len nodes.old + 1 }
+    ensures capacity { vec_capacity nodes.new ≡ vec_capacity nodes.old }
+{
+    sweep.apply(nodes, parent, size);
+    nodes.push_reserved(child);
+}
+
 impl EagerTree {
     /// The tree of an allocation of `size` bytes, at least one, with a root that may do all.
     pub fn new(alloc: Global, root: Tag, size: u32) -> Result<EagerTree, NoMemory>
@@ -56,18 +67,6 @@ impl EagerTree {
         nodes.push_reserved(node);
         Ok(EagerTree {
             size,
-            nodes,
-            ready: None,
-        })
-    }
-
-    /// The same tree, without room for a further node.
-    pub fn copy(&self) -> Result<EagerTree, NoMemory>
-        ensures { IfOk result (λ t. t ≡ record { tree = self.now.tree; spare = 0 }) }
-    {
-        let nodes = copy_of(*self.nodes.allocator(), &self.nodes)?;
-        Ok(EagerTree {
-            size: self.size,
             nodes,
             ready: None,
         })
@@ -115,7 +114,10 @@ impl EagerTree {
     /// begins with one state on all bytes, and counts the bytes of the span alone as accessed.
     ///
     /// The span is at least one byte of the allocation, and the tag greater than each of the tree.
-    /// Where memory is wanting nothing changes.
+    ///
+    /// # Errors
+    ///
+    /// `NoMemory`: out of memory. The tree stays as it was.
     pub fn retag(
         &mut self,
         parent: Tag,
@@ -142,10 +144,10 @@ impl EagerTree {
         }
         let alloc = *self.nodes.allocator();
         let cells = cells_of(alloc, start(kind, guard), span, self.size)?;
+        // one for the child, and one so that the room which `reserve_node` made stays
         self.nodes.reserve(2)?;
-        sweep.apply(&mut self.nodes, parent, self.size);
         let child = Node::child(parent, tag, guard, cells);
-        self.nodes.push_reserved(child);
+        add_child(&mut self.nodes, sweep, self.size, parent, child);
         Ok(None)
     }
 
@@ -204,7 +206,7 @@ impl EagerTree {
     ///
     /// # Errors
     ///
-    /// `NoMemory`: want of memory, where there was no room. The tree stays as it was.
+    /// `NoMemory`: out of memory, where there was no room. The tree stays as it was.
     pub fn reserve_node(&mut self) -> Result<(), NoMemory>
         ensures ok { OnOk result (1 ≤ self.new.spare) }
         ensures succeeds { 1 ≤ self.old.spare → IsOk result }
@@ -254,9 +256,18 @@ impl EagerTree {
             unreachable!()
         };
         fill(&mut cells, start(kind, guard), span, self.size);
-        sweep.apply(&mut self.nodes, parent, self.size);
         let child = Node::child(parent, tag, guard, cells);
-        self.nodes.push_reserved(child);
+        add_child(&mut self.nodes, sweep, self.size, parent, child);
         None
+    }
+}
+
+impl Copied for EagerTree {
+    fn copy(&self) -> Result<EagerTree, NoMemory> {
+        Ok(EagerTree {
+            size: self.size,
+            nodes: copy_vec(&self.nodes)?,
+            ready: self.ready.copy()?,
+        })
     }
 }

@@ -1,9 +1,7 @@
 //! Requests, replies, and the entries that record both.
-ghost use Rattle.std.specs.Prelude.{◌≡◌, IfOk};
-
 use crate::piece::Piece;
 use crate::trap::Trap;
-use bsan_ids::{AllocNo, NoMemory, Prov, Stamp, Tag, ThreadNo};
+use bsan_ids::{AllocNo, Copied, NoMemory, Prov, Stamp, Tag, ThreadNo};
 use ir_ast::{ModifyOp, Place, Ty, Width};
 use eager_tree::Violation;
 use perm_table::{Guard, RetagKind};
@@ -159,15 +157,8 @@ pub struct Entry {
     pub reply: Reply,
 }
 
-impl Request {
-    /// The same request once more, with memory of its own.
-    ///
-    /// # Errors
-    ///
-    /// `NoMemory`: want of memory.
-    pub fn copy(&self) -> Result<Request, NoMemory>
-        ensures { IfOk result (λ request. request ≡ self.now) }
-    {
+impl Copied for Request {
+    fn copy(&self) -> Result<Request, NoMemory> {
         Ok(match self {
             Request::Make { size, place } => Request::Make {
                 size: *size,
@@ -264,15 +255,8 @@ impl Request {
     }
 }
 
-impl Plain {
-    /// The same reply once more, with memory of its own.
-    ///
-    /// # Errors
-    ///
-    /// `NoMemory`: want of memory.
-    pub fn copy(&self) -> Result<Plain, NoMemory>
-        ensures { IfOk result (λ plain. plain ≡ self.now) }
-    {
+impl Copied for Plain {
+    fn copy(&self) -> Result<Plain, NoMemory> {
         Ok(match self {
             Plain::Made(number) => Plain::Made(*number),
             Plain::Value(value) => Plain::Value(*value),
@@ -285,15 +269,8 @@ impl Plain {
     }
 }
 
-impl Reply {
-    /// The same reply once more, with memory of its own.
-    ///
-    /// # Errors
-    ///
-    /// `NoMemory`: want of memory.
-    pub fn copy(&self) -> Result<Reply, NoMemory>
-        ensures { IfOk result (λ reply. reply ≡ self.now) }
-    {
+impl Copied for Reply {
+    fn copy(&self) -> Result<Reply, NoMemory> {
         Ok(Reply {
             plain: self.plain.copy()?,
             carried: self.carried,
@@ -302,15 +279,8 @@ impl Reply {
     }
 }
 
-impl Entry {
-    /// The same entry once more, with memory of its own.
-    ///
-    /// # Errors
-    ///
-    /// `NoMemory`: want of memory.
-    pub fn copy(&self) -> Result<Entry, NoMemory>
-        ensures { IfOk result (λ entry. entry ≡ self.now) }
-    {
+impl Copied for Entry {
+    fn copy(&self) -> Result<Entry, NoMemory> {
         Ok(Entry {
             thread: self.thread,
             stamp: self.stamp,

@@ -8,7 +8,7 @@ ghost use Rattle.history.specs.Records as records;
 
 use crate::log::{AllocLog, ThreadLog};
 use crate::record::RunRecord;
-use bsan_ids::NoMemory;
+use bsan_ids::{Copied, NoMemory};
 use crate::entry::{Entry, Verdict};
 use crate::merge::{append_copies, sort_by_stamp};
 use std::alloc::Global;

@@ -1,8 +1,8 @@
 //! A piece of at most 32 bytes with their fragments, which are kept as runs.
-ghost use Rattle.std.specs.Prelude.{◌≡◌, ◌+◌, ◌<◌, ◌≤◌, [], ◌∷◌, ◌++◌, length, slice_get, Some, All, IfOk, OnOk, OnErr, vec_len, vec_capacity, true};
+ghost use Rattle.std.specs.Prelude.{◌≡◌, ◌+◌, ◌<◌, ◌≤◌, [], ◌∷◌, ◌++◌, length, slice_get, Some, All, OnOk, OnErr, vec_len, vec_capacity, true};
 ghost use Rattle.history.specs.Pieces.{run_of, fragments_of, IsSmall};
 
-use bsan_ids::{Frag, NoMemory};
+use bsan_ids::{Copied, Frag, NoMemory};
 use std::alloc::Global;
 use std::marker::Model;
 
@@ -159,15 +159,10 @@ impl Piece {
         push_fragment(&mut self.runs, frag);
         Ok(())
     }
+}
 
-    /// The same piece once more, with memory of its own.
-    ///
-    /// # Errors
-    ///
-    /// `NoMemory`: want of memory.
-    pub fn copy(&self) -> Result<Piece, NoMemory>
-        ensures { IfOk result (λ piece. piece ≡ self.now) }
-    {
+impl Copied for Piece {
+    fn copy(&self) -> Result<Piece, NoMemory> {
         let alloc = *self.bytes.allocator();
         Ok(Piece {
             bytes: Vec::from_slice(alloc, &self.bytes)?,
