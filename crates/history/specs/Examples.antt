@@ -19,7 +19,7 @@ use Rattle.history.specs.declared.entry.Plain.TheVariants.{Made, Value, Copied, 
 use Rattle.history.specs.declared.entry.Verdict.{Verdict}
 use Rattle.history.specs.declared.entry.Verdict.TheVariants.{Clean, Closed, Violated}
 use Rattle.history.specs.declared.entry.Reply.{Reply}
-use Rattle.history.specs.Fragments.{fragments_from}
+use Rattle.history.specs.Pieces.{fragments_from}
 use Rattle.history.specs.Objects.{Object, answer}
 
 -- a request with the stamp of its step

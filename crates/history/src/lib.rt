@@ -2,7 +2,9 @@
 #![tactic(auto)]
 
 mod ask;
+mod copies;
 mod entry;
+mod equality;
 mod examples;
 mod log;
 mod logged;
@@ -23,7 +25,7 @@ pub use examples::{
 pub use log::{AllocLog, End, ThreadLog};
 pub use logged::Logged;
 pub use merge::{append_copies, merge_by_stamp, sort_by_stamp};
-pub use piece::Piece;
+pub use piece::{Piece, PieceBuffer};
 pub use record::RunRecord;
 pub use restriction::of_thread;
 pub use trap::Trap;

@@ -3,7 +3,7 @@ ghost use Rattle.std.specs.Prelude.{◌≡◌, ◌++◌, take, vec_len, IfOk, On
 ghost use Rattle.history.specs.Merge.{CanMerge, IsMerge, by_stamp};
 
 use crate::entry::Entry;
-use bsan_ids::NoMemory;
+use bsan_ids::{Copied, NoMemory};
 
 fn push_copies(into: &mut Vec<Entry>, entries: &[Entry]) -> Result<(), NoMemory>
     ensures grown { OnOk result (into.new.items ≡ into.old.items ++ entries.now) }

@@ -6,11 +6,11 @@ ghost use Rattle.history.specs.Merge.{IsMerge};
 ghost use Rattle.history.specs.Records.{HasDistinctStamps, thread_entries, first_found, violates, has_violation, first_violation};
 ghost use Rattle.history.specs.Records as records;
 
-use crate::log::{AllocLog, ThreadLog};
-use crate::record::RunRecord;
-use bsan_ids::NoMemory;
 use crate::entry::{Entry, Verdict};
+use crate::log::{AllocLog, ThreadLog};
 use crate::merge::{append_copies, sort_by_stamp};
+use crate::record::RunRecord;
+use bsan_ids::{Copied, NoMemory};
 use std::alloc::Global;
 
 fn is_violation(entry: &Entry) -> bool

@@ -3,7 +3,7 @@ ghost use Rattle.std.specs.Prelude.{◌≡◌, IfOk};
 ghost use Rattle.history.specs.Restriction.{of_thread as entries_of};
 
 use crate::entry::Entry;
-use bsan_ids::{NoMemory, ThreadNo};
+use bsan_ids::{Copied, NoMemory, ThreadNo};
 use std::alloc::Global;
 
 /// Copies of the entries that this thread made, in their order.

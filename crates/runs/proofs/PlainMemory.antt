@@ -18,7 +18,8 @@ use Rattle.history.specs.declared.entry.Request.TheVariants as request
 use Rattle.history.specs.declared.trap.Trap.{Trap}
 use Rattle.history.specs.declared.trap.Trap.TheVariants as trap
 use Rattle.history.specs.Memory.{Memory as Bytes, is_outside, trap_in, next_memory, in_range, put, word_at}
-use Rattle.history.specs.Fragments.{Shadow, stored_as, fragments_from, next_shadow}
+use Rattle.history.specs.Pieces.{fragments_from}
+use Rattle.history.specs.Fragments.{Shadow, stored_as, next_shadow}
 use Rattle.history.specs.Objects.{Object, Made, data_answer, data_unless, plain_reply, retag_answer, end_answer, answer, Answer}
 use Rattle.history.specs.Pieces.{Byte}
 use Rattle.history.specs.Replies.{trap_of}
