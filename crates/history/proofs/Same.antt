@@ -18,6 +18,6 @@ same_items (x ∷ xs) (y ∷ ys) long h =
 
 pub agree_more : {A : Type 0} (n : ℕ) (xs ys : List A) → AgreeBelow n xs ys → slice_get xs n ≡ slice_get ys n → AgreeBelow (n + 1) xs ys
 agree_more n xs ys h at k lt = elim (cases_lt k n) [
-      | inl below ↦ h k below
-      | inr above ↦ let same : k ≡ n = omega (arith, lt, above) in ap (slice_get xs) same ∙ at ∙ ap (slice_get ys) (sym same)
-    ]
+  | inl below ↦ h k below
+  | inr above ↦ let same : k ≡ n = omega (arith, lt, above) in ap (slice_get xs) same ∙ at ∙ ap (slice_get ys) (sym same)
+]

@@ -20,7 +20,8 @@ mod trap;
 pub use ask::{Arg, Ask, MachineEnd};
 pub use entry::{Entry, Plain, Reply, Request, Verdict};
 pub use examples::{
-    protectors_by_example, provenances_by_example, reborrows_by_example, traps_by_example,
+    exchanges_by_example, protectors_by_example, provenances_by_example, reborrows_by_example,
+    traps_by_example,
 };
 pub use log::{AllocLog, End, ThreadLog};
 pub use logged::Logged;

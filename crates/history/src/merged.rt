@@ -65,7 +65,7 @@ impl RunRecord {
     ///
     /// # Errors
     ///
-    /// `NoMemory`: want of memory.
+    /// `NoMemory`: out of memory.
     pub fn merged(&self, alloc: Global) -> Result<Vec<Entry>, NoMemory>
         requires { HasDistinctStamps self.now }
         ensures merged { IfOk result (λ v. v.items ≡ records.merged self.now) }
@@ -81,7 +81,7 @@ impl RunRecord {
     ///
     /// # Errors
     ///
-    /// `NoMemory`: want of memory.
+    /// `NoMemory`: out of memory.
     pub fn first_violations(&self, alloc: Global) -> Result<Vec<Entry>, NoMemory>
         requires { HasDistinctStamps self.now }
         ensures found { IfOk result (λ v. v.items ≡ records.first_violations self.now) }

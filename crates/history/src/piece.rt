@@ -148,7 +148,7 @@ impl Piece {
     ///
     /// # Errors
     ///
-    /// `NoMemory`: want of memory. The piece stays as it was.
+    /// `NoMemory`: out of memory; then the piece is as before.
     pub fn push(&mut self, byte: u8, frag: Option<Frag>) -> Result<(), NoMemory>
         requires { length self.old < 32 }
         ensures ok { OnOk result (self.new ≡ self.old ++ (byte, frag) ∷ []) }
