@@ -177,7 +177,7 @@ impl Copied for ThreadLog {
             number: self.number,
             parent: self.parent,
             entry_function: self.entry_function,
-            entries: self.entries.copy_each()?,
+            entries: self.entries.copy()?,
             instructions: self.instructions,
             last: self.last,
             end: self.end,
@@ -189,7 +189,7 @@ impl Copied for AllocLog {
     fn copy(&self) -> Result<AllocLog, NoMemory> {
         Ok(AllocLog {
             number: self.number,
-            entries: self.entries.copy_each()?,
+            entries: self.entries.copy()?,
         })
     }
 }
@@ -197,8 +197,8 @@ impl Copied for AllocLog {
 impl Copied for RunRecord {
     fn copy(&self) -> Result<RunRecord, NoMemory> {
         Ok(RunRecord {
-            threads: self.threads.copy_each()?,
-            allocs: self.allocs.copy_each()?,
+            threads: self.threads.copy()?,
+            allocs: self.allocs.copy()?,
             words: self.words,
         })
     }
