@@ -49,6 +49,13 @@ impl<T> ListOf<T> {
         items
     }
 
+    /// A list without items, whose memory comes from where that of this one comes. It takes none.
+    pub fn fresh<U>(&self) -> ListOf<U>
+        ensures { result ≡ [] }
+    {
+        ListOf::new(*self.items.allocator())
+    }
+
     /// The items as a slice.
     pub fn as_slice(&self) -> &[T]
         ensures { result.now ≡ self.now }

@@ -1,7 +1,7 @@
 //! What a thread asks next.
 use crate::entry::Request;
 use crate::trap::Trap;
-use bsan_ids::{AllocNo, Copied, NoMemory, Prov, ThreadNo};
+use bsan_ids::{AllocNo, Prov, ThreadNo};
 use ir_ast::Place;
 
 /// An argument of a function: a word, and for a pointer its provenance.
@@ -55,35 +55,4 @@ pub enum Ask {
     },
     /// The thread has ended.
     Ended(MachineEnd),
-}
-
-impl Copied for Ask {
-    fn copy(&self) -> Result<Ask, NoMemory> {
-        Ok(match self {
-            Ask::Turn => Ask::Turn,
-            Ask::Make { size, place } => Ask::Make {
-                size: *size,
-                place: *place,
-            },
-            Ask::At { alloc, request } => Ask::At {
-                alloc: *alloc,
-                request: request.copy()?,
-            },
-            Ask::Print { value } => Ask::Print { value: *value },
-            Ask::Host {
-                number,
-                first,
-                second,
-            } => Ask::Host {
-                number: *number,
-                first: *first,
-                second: *second,
-            },
-            Ask::Spawn { function } => Ask::Spawn {
-                function: *function,
-            },
-            Ask::Join { child } => Ask::Join { child: *child },
-            Ask::Ended(end) => Ask::Ended(*end),
-        })
-    }
 }

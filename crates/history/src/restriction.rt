@@ -10,7 +10,7 @@ use std::alloc::Global;
 ///
 /// # Errors
 ///
-/// `NoMemory`: want of memory.
+/// `NoMemory`: out of memory.
 pub fn of_thread(alloc: Global, entries: &[Entry], thread: ThreadNo) -> Result<Vec<Entry>, NoMemory>
     ensures { IfOk result (λ part. part.items ≡ entries_of thread entries.now) }
 {
