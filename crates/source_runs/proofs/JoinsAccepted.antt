@@ -32,7 +32,6 @@ use Rattle.ir_rules.specs.Paths as paths
 use Rattle.ir_rules.specs.Paths.{Avoids}
 use Rattle.ir_rules.specs.Rules.{held, used, UseBreaks, IsAccepted}
 use Rattle.ir_rules.specs.Rules.Broken.{of_use, of_path, of_first, twice_register}
-use Rattle.ir_ast.specs.Numbers.{block_place}
 use Rattle.source_sem.specs.Joining.{params_define, dest_defines, insts_define, IsGoal, IsPath, IsUnassigned, StandsAt, IsSpawnOp, IsHandle, FunctionJoins, GivesValue}
 use Rattle.source_runs.proofs.JoinNames.{bytes_sym, hit, times, over, times-append, times-flat, over_one, over_at, over_two, over_apart, second_of, HandleIn, held_handle, handle-append, no_param_handle, no_use_handle, handle_inst, handle_block, inst_spawns}
 use Rattle.source_runs.specs.AcceptedJoins.{AcceptedProgramsJoin}
@@ -162,21 +161,6 @@ avoid_insts r (i ∷ is) h = by_test (dest_defines i.dest r) refl h (avoid_insts
 
 -- paths -----------------------------------------------------------------------------------
 
-flips_by : (a b : List ℕ) (e f : Bool) → bytes_eq a b ≡ e → bytes_eq b a ≡ f → f ≡ e
-flips_by a b true true t g = refl
-flips_by a b false false t g = refl
-flips_by a b true false t g = absurd (true≢false (sym (bytes_sym a b t) ∙ g))
-flips_by a b false true t g = absurd (true≢false (sym (bytes_sym b a g) ∙ t))
-
-place_by : (b : Block) (bs : List Block) (label : List ℕ) (c : ℕ) (e : Bool) → bytes_eq b.label.name label ≡ e → (if e then 0 else suc (block_place bs label)) ≡ c → c < suc (length bs)
-    → (block_place bs label < length bs → paths.block_place bs label ≡ Some (block_place bs label)) → paths.block_place (b ∷ bs) label ≡ Some c
-place_by b bs label c true t h less more = rw (flips_by b.label.name label true (bytes_eq label b.label.name) t refl) (ap Some h)
-place_by b bs label c false t h less more = rw (flips_by b.label.name label false (bytes_eq label b.label.name) t refl) (ap paths.option_suc (more (omega (arith, h, less))) ∙ ap Some h)
-
-place_alike : (bs : List Block) (label : List ℕ) (c : ℕ) → block_place bs label ≡ c → c < length bs → paths.block_place bs label ≡ Some c
-place_alike [] label c is less = absurd (omega (arith, less))
-place_alike (b ∷ bs) label c is less = place_by b bs label c (bytes_eq b.label.name label) refl is less (λ l. place_alike bs label (block_place bs label) refl l)
-
 goal_in : (j : Jump) (g : Goal) → IsGoal j g → Contains (jump_goals j) g
 goal_in (jump.Br h) g is = subst (λ z. Contains (z ∷ []) g) (sym is) (first_of g [])
 goal_in (jump.CondBr v a b) g (inl is) = subst (λ z. Contains (z ∷ b ∷ []) g) (sym is) (first_of g (b ∷ []))
@@ -195,7 +179,7 @@ module _ (g : Function) (r : List ℕ) where
   path_alike c (b ∷ path) less is =
       let e = is.0 in
       let a = is.1 in (
-        (e.block, e.goal, e.is_block, goal_in e.block.term.jump e.goal e.is_goal, place_alike g.blocks e.goal.label.name c e.to less),
+        (e.block, e.goal, e.is_block, goal_in e.block.term.jump e.goal e.is_goal, e.to, less),
         (
           a.block,
           a.is_block,
