@@ -35,7 +35,8 @@ use Rattle.ir_ast.specs.Shapes.{Defines}
 use Rattle.ir_ast.specs.Tokens.{Each}
 use Rattle.ir_rules.specs.Occurrences.{param_event, jump_goals}
 use Rattle.ir_rules.specs.Paths.{GoesTo}
-use Rattle.source_sem.specs.Joining.{IsHeld, Enters, CallersStand, ThreadStands, StandsAt, IsSpawnOp, Has, HasHandles, FunctionJoins, JoinsAccepted, Site, Placed, Waits, Retagged, DoingStands}
+use Rattle.runs.specs.Parts.{Has}
+use Rattle.source_sem.specs.Joining.{IsHeld, Enters, CallersStand, ThreadStands, StandsAt, IsSpawnOp, HasHandles, FunctionJoins, JoinsAccepted, Site, Placed, Waits, Retagged, DoingStands}
 use Rattle.source_sem.proofs.Events.{entry_held, goes_to}
 use Rattle.source_sem.proofs.Joins.{holds_put, holds_pass, holds_goto, holds_entry}
 

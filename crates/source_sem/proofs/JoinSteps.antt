@@ -37,13 +37,13 @@ use Rattle.thread_parts.specs.Fits.{SpawnedChild, ReplyFits}
 use Rattle.source_sem.specs.Source.{ready_turn, term_ask, ready_ask, returned_value, at_frames, counted, part_child, insts_child, frames_child, Setting, Source, Frame, Doing, Ready, Entering, Copying, Waiting, Retagging, Leaving, op_part, result_step, joined, entry_ask, frames_type, nowhere, leave_with, copy_on, part_answer, term_answer, ready_answer, copying_part, copying_answer, entered, doing_answer, frames_answer, doing_ask, frames_ask, release_or, copying_ask, copying_by, frames_turn, counted_if, frames_begin, is_ready}
 use Rattle.source_sem.proofs.Mirroring.{fr, entering_steps, copying_steps, release_steps}
 use Rattle.source_sem.specs.Plain.{IsWaiting}
-use Rattle.source_sem.specs.Joining.{StartsNoMain, Enters, IsLost, CallersStand, FramesStand, ThreadStands, JoinLaw, IsSpawnOp, Has, HasHandles, FunctionJoins, JoinsAccepted, Site, Placed, Waits, Retagged, DoingStands, is_bound}
+use Rattle.source_sem.specs.Joining.{StartsNoMain, Enters, IsLost, CallersStand, FramesStand, ThreadStands, JoinLaw, IsSpawnOp, HasHandles, FunctionJoins, JoinsAccepted, Site, Placed, Waits, Retagged, DoingStands, is_bound}
 use Rattle.std.specs.Cmp.Lexicographic.{bytes_decides}
 use Rattle.ir_rules.specs.Occurrences.{function_events}
 use Rattle.ir_rules.specs.Rules.{held}
 use Rattle.source_sem.proofs.Events.{inst_held, spawn_alone, params_apart}
 use Rattle.source_sem.proofs.Joins.{join_asks, holds_more, or_false}
-use Rattle.runs.specs.Parts.{Answers, spawned_of, spawned_by}
+use Rattle.runs.specs.Parts.{Has, Answers, spawned_of, spawned_by}
 use Rattle.perm_table.specs.declared.Guard.TheVariants.{Free}
 use Rattle.ir_ast.specs.declared.types.Place.TheVariants.{Stack, Heap}
 use Rattle.history.specs.Pieces.{Byte}

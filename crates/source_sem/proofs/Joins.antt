@@ -21,7 +21,8 @@ use Rattle.ir_rules.specs.Paths.{Avoids, GoesTo}
 use Rattle.ir_rules.specs.Rules.{held}
 use Rattle.thread_parts.specs.Words.{blank, arg_at}
 use Rattle.source_sem.specs.Env.{Env, value_in, with_value, bind}
-use Rattle.source_sem.specs.Joining.{IsHeld, JoinsFit, FunctionJoins, IsUnassignedAfter, StandsAt, IsSpawnOp, is_bound, Has, HasHandles}
+use Rattle.runs.specs.Parts.{Has}
+use Rattle.source_sem.specs.Joining.{IsHeld, JoinsFit, FunctionJoins, IsUnassignedAfter, StandsAt, IsSpawnOp, is_bound, HasHandles}
 use Rattle.source_sem.proofs.Events.{each_in, inst_held, entry_held, params_held, spawn_alone, apart, other_name, avoid_more, avoid_front, avoid_block, params_apart}
 use Rattle.source_sem.proofs.Writes.{value_in-with_value, is_bound-with_value}
 

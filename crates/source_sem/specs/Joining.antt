@@ -27,7 +27,7 @@ use Rattle.history.specs.declared.ask.Arg.{Arg}
 use Rattle.history.specs.declared.entry.Entry.{Entry}
 use Rattle.bsan_ids.specs.declared.numbers.ThreadNo.{ThreadNo}
 use Rattle.history.specs.declared.ask.Ask.TheVariants as ask
-use Rattle.runs.specs.Parts.{Answers, child_of}
+use Rattle.runs.specs.Parts.{Has, Answers, child_of}
 use Rattle.thread_parts.specs.Owned.{Owned}
 use Rattle.source_sem.specs.Plain.{IsWaiting}
 use Rattle.source_sem.specs.Source.{Setting, Source, Frame, Doing, Ready, Entering, Copying, Waiting, Retagging, Leaving, source_start, source_child, source_ask, source_turn, source_answer, source_fits}
@@ -68,10 +68,6 @@ IsSpawnOp other = ⊥
 abbrev pub is_bound : Env → List ℕ → Bool
 is_bound [] r = false
 is_bound (e ∷ env) r = if bytes_eq e.0 r then true else is_bound env r
-
-abbrev pub Has : List ℕ → ℕ → Type 0
-Has [] c = ⊥
-Has (d ∷ ds) c = (d ≡ c) ⊎ Has ds c
 
 -- the registers of a frame after `done` in block b: one without a value is unassigned on a path, a handle with a value is a child
 pub record HasHandles (g : Function) (b : ℕ) (block : Block) (done : List Inst) (env : Env) (started : List ℕ) : Type 0 where
