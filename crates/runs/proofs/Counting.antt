@@ -5,9 +5,9 @@ use Rattle.std.proofs.lemmas.List.Sums.{sum_by-cons}
 use Rattle.history.specs.declared.entry.Entry.{Entry}
 use Rattle.history.specs.declared.log.ThreadLog.{ThreadLog}
 use Rattle.history.specs.Merge.{put_by_stamp}
+use Rattle.runs.specs.Parts.{Has}
 use Rattle.runs.specs.Merge.{merged_with}
 use Rattle.runs.specs.Right.{AtLeast}
-use Rattle.runs.specs.Stamps.{Has}
 use Rattle.runs.proofs.MergeLaws.{at_most_tells}
 
 -- 1 where the entry passes

@@ -5,10 +5,10 @@ use Rattle.std.proofs.lemmas.Bool.{eq-eqb}
 use Rattle.std.proofs.lemmas.Bool.Decides.{eqb_tells, nat_tests}
 use Rattle.history.specs.declared.entry.Entry.{Entry}
 use Rattle.history.specs.declared.log.ThreadLog.{ThreadLog}
-use Rattle.runs.specs.Parts.{of_thread}
-use Rattle.runs.specs.Stamps.{Has, RisesFrom}
+use Rattle.runs.specs.Parts.{Has, of_thread}
+use Rattle.runs.specs.Stamps.{RisesFrom}
 use Rattle.history.specs.Merge.{put_by_stamp}
-use Rattle.runs.specs.Merge.{merged_with, merged, entries_of, IsMerge, IsOwn, MayMerge, no_logs, one_more}
+use Rattle.runs.specs.Merge.{merged_with, merged, entries_of, IsPartwiseMerge, IsOwn, MayMerge, no_logs, one_more}
 use Rattle.runs.specs.Right.{NumbersRiseFrom}
 
 pub at_most_tells : (a b : ℕ) → ((nat_le a b ≡ true) × (a ≤ b)) ⊎ ((nat_le a b ≡ false) × (b < a))
@@ -120,5 +120,5 @@ merged_parts n t (l ∷ ls) r (one_more own rises apart more) = elim (eqb_tells 
 ]
 
 -- the merge is in stamp order, and its parts are the logs
-pub merged_is_merge : (logs : List ThreadLog) → NumbersRiseFrom 0 logs → MayMerge logs → IsMerge logs (merged logs)
+pub merged_is_merge : (logs : List ThreadLog) → NumbersRiseFrom 0 logs → MayMerge logs → IsPartwiseMerge logs (merged logs)
 merged_is_merge logs r may = record { rises = merged_rises logs may; parts = λ t. merged_parts 0 t logs r may }

@@ -8,11 +8,12 @@ use Rattle.history.specs.Merge.{put_by_stamp}
 use Rattle.history.specs.declared.log.ThreadLog.{ThreadLog}
 use Rattle.history.specs.declared.record.RunRecord.{RunRecord}
 use Rattle.bsan_ids.specs.declared.numbers.Limits.{Limits}
+use Rattle.runs.specs.Parts.{Has}
 use Rattle.runs.specs.Interleaving.{Allowed}
 use Rattle.runs.specs.Machine.{Machine, Memory}
 use Rattle.runs.specs.Merge.{merged_with, merged, IsOwn, MayMerge, no_logs, one_more}
-use Rattle.runs.specs.Right.{HasLog, IsRight}
-use Rattle.runs.specs.Stamps.{Has, RisesFrom}
+use Rattle.runs.specs.Right.{IsRight}
+use Rattle.runs.specs.Stamps.{RisesFrom}
 use Rattle.runs.specs.Threads.{IsThreadRun}
 use Rattle.runs.proofs.FiberLists.{numbered_rises}
 use Rattle.runs.proofs.MergeLaws.{at_most_tells, above_first}
@@ -54,7 +55,7 @@ own_of n (e ∷ es) all = (ap (λ (x : ThreadNo). x.0) all.0, own_of n es all.1)
 pub run_own : (M : Machine) (limits : Limits) (starts : ℕ → M.State) (log : ThreadLog) → IsThreadRun M limits starts log → IsOwn log.number.0 log.entries
 run_own M limits starts log r = let P : Entry → Type 0 = λ e. e.thread ≡ log.number in own_of log.number log.entries (recursion_from_All P log.entries r.own)
 
-pub rising_may_merge : (n : ℕ) (logs : List ThreadLog) → RisesFrom n (merged logs) → ((log : ThreadLog) → HasLog logs log → IsOwn log.number.0 log.entries × RisesFrom 0 log.entries) → MayMerge logs
+pub rising_may_merge : (n : ℕ) (logs : List ThreadLog) → RisesFrom n (merged logs) → ((log : ThreadLog) → Has logs log → IsOwn log.number.0 log.entries × RisesFrom 0 log.entries) → MayMerge logs
 rising_may_merge n [] r each = no_logs
 rising_may_merge n (l ∷ ls) r each =
     let apart = with_apart n l.entries (merged ls) r in

@@ -3,8 +3,8 @@ use Rattle.std.specs.Prelude.{◌≡◌, ◌≢◌, ℕ, ◌==◌, if◌then◌e
 use Rattle.history.specs.declared.entry.Entry.{Entry}
 use Rattle.history.specs.Merge.{put_by_stamp}
 use Rattle.history.specs.declared.log.ThreadLog.{ThreadLog}
-use Rattle.runs.specs.Parts.{of_thread}
-use Rattle.runs.specs.Stamps.{Has, RisesFrom}
+use Rattle.runs.specs.Parts.{Has, of_thread}
+use Rattle.runs.specs.Stamps.{RisesFrom}
 
 -- both lists, in stamp order where the second is
 abbrev pub merged_with : List Entry → List Entry → List Entry
@@ -21,7 +21,7 @@ entries_of [] t = []
 entries_of (log ∷ logs) t = if log.number.0 == t then log.entries else entries_of logs t
 
 -- in stamp order, and each thread's part is its log
-pub record IsMerge (logs : List ThreadLog) (entries : List Entry) : Type 0 where
+pub record IsPartwiseMerge (logs : List ThreadLog) (entries : List Entry) : Type 0 where
   pub rises : RisesFrom 0 entries
   pub parts : (t : ℕ) → of_thread t entries ≡ entries_of logs t
 

@@ -22,18 +22,13 @@ use Rattle.history.specs.declared.log.ThreadLog.{ThreadLog}
 use Rattle.bsan_ids.specs.declared.numbers.ThreadNo.{ThreadNo}
 use Rattle.history.specs.declared.trap.Trap.{Trap}
 use Rattle.history.specs.declared.trap.Trap.TheVariants as trap
-use Rattle.runs.specs.Parts.{of_thread, of_alloc, child_of, is_child}
+use Rattle.runs.specs.Parts.{Has, of_thread, of_alloc, child_of, is_child}
 use Rattle.runs.specs.Machine.{Machine, Memory, Settles}
 use Rattle.runs.specs.Threads.{Feeds, IsThreadRun, AsksMake, AsksSpawn}
 use Rattle.runs.specs.Interleaving.{first_world, Allowed, Interleaves, Legal, last_world}
 use Rattle.runs.specs.Erasure.{erasure}
-use Rattle.runs.specs.Stamps.{Has, RisesFrom}
+use Rattle.runs.specs.Stamps.{RisesFrom}
 use Rattle.runs.specs.Merge.{merged, entries_of}
-
--- the log is one of these
-abbrev pub HasLog : List ThreadLog → ThreadLog → Type 0
-HasLog [] log = ⊥
-HasLog (l ∷ ls) log = (l ≡ log) ⊎ HasLog ls log
 
 abbrev pub NumbersRiseFrom : ℕ → List ThreadLog → Type 0
 NumbersRiseFrom n [] = Unit {0}
@@ -61,11 +56,11 @@ pub record IsSpawnedOnce (logs : List ThreadLog) (log : ThreadLog) : Type 0 wher
 -- (a) the threads
 pub record HasThreads (main : ℕ) (logs : List ThreadLog) : Type 0 where
   pub rise : NumbersRiseFrom 0 logs
-  pub first : (log : ThreadLog) → HasLog logs log → log.number.0 ≡ 0 → (log.parent ≡ None) × (log.entry_function ≡ main)
-  pub has_first : (log : ThreadLog) × HasLog logs log × (log.number.0 ≡ 0)
-  pub spawned : (log : ThreadLog) → HasLog logs log → (log.number.0 ≡ 0) ⊎ IsSpawnedOnce logs log
-  pub children : (log : ThreadLog) (e : Entry) (f : ℕ) → HasLog logs log → Has log.entries e → e.request ≡ request.Spawn f
-      → (child : ThreadLog) × HasLog logs child × (e.reply.plain ≡ plain.Spawned child.number)
+  pub first : (log : ThreadLog) → Has logs log → log.number.0 ≡ 0 → (log.parent ≡ None) × (log.entry_function ≡ main)
+  pub has_first : (log : ThreadLog) × Has logs log × (log.number.0 ≡ 0)
+  pub spawned : (log : ThreadLog) → Has logs log → (log.number.0 ≡ 0) ⊎ IsSpawnedOnce logs log
+  pub children : (log : ThreadLog) (e : Entry) (f : ℕ) → Has logs log → Has log.entries e → e.request ≡ request.Spawn f
+      → (child : ThreadLog) × Has logs child × (e.reply.plain ≡ plain.Spawned child.number)
 
 -- a chain of Spawn entries leads from log 0 to the log of this thread
 pub data IsReached : List ThreadLog → ℕ → Type 0 where
@@ -77,12 +72,12 @@ pub data IsReached : List ThreadLog → ℕ → Type 0 where
 pub record HasRuns (M : Machine) (limits : Limits) (main : M.State) (logs : List ThreadLog) : Type 0 where
   pub starts : ℕ → M.State
   pub first : starts 0 ≡ main
-  pub reached : (log : ThreadLog) → HasLog logs log → IsReached logs log.number.0
-  pub runs : (log : ThreadLog) → HasLog logs log → IsThreadRun M limits starts log
-  pub joined : (log : ThreadLog) (e : Entry) (c : ThreadNo) → HasLog logs log → Has log.entries e → e.request ≡ request.Join c
-      → (v : ℕ) × (e.reply.plain ≡ plain.Value v) × (end_of logs c.0 ≡ log_end.Returned v e.reply.carried) × ((child : ThreadLog) × HasLog logs child × (child.number ≡ c))
-  pub ended : (log : ThreadLog) (c : ThreadNo) → HasLog logs log → log.«end» ≡ log_end.ChildEnded c
-      → ((child : ThreadLog) × HasLog logs child × (child.number ≡ c)) × ((v : ℕ) (p : Option Prov) → end_of logs c.0 ≢ log_end.Returned v p)
+  pub reached : (log : ThreadLog) → Has logs log → IsReached logs log.number.0
+  pub runs : (log : ThreadLog) → Has logs log → IsThreadRun M limits starts log
+  pub joined : (log : ThreadLog) (e : Entry) (c : ThreadNo) → Has logs log → Has log.entries e → e.request ≡ request.Join c
+      → (v : ℕ) × (e.reply.plain ≡ plain.Value v) × (end_of logs c.0 ≡ log_end.Returned v e.reply.carried) × ((child : ThreadLog) × Has logs child × (child.number ≡ c))
+  pub ended : (log : ThreadLog) (c : ThreadNo) → Has logs log → log.«end» ≡ log_end.ChildEnded c
+      → ((child : ThreadLog) × Has logs child × (child.number ≡ c)) × ((v : ℕ) (p : Option Prov) → end_of logs c.0 ≢ log_end.Returned v p)
 
 -- the k-th entry has the stamp k
 abbrev pub Numbered : ℕ → List Entry → Type 0
@@ -125,7 +120,7 @@ EndsPlainly P q e = Unit {0}
 -- (e) the erasure of the merge is a run of the plain program, in which each thread ends alike
 pub record ErasesToPlainRun (P : Machine) (Q : Memory) (A : Allowed) (main : P.State) (logs : List ThreadLog) : Type 0 where
   pub run : Interleaves P Q A (first_world P Q main) (erasure (merged logs))
-  pub ends : (log : ThreadLog) → HasLog logs log
+  pub ends : (log : ThreadLog) → Has logs log
       → (p q : P.State) × ((last_world P Q A (first_world P Q main) (erasure (merged logs)) run).threads log.number.0 ≡ Some p) × Settles P p q × EndsPlainly P q log.«end»
 
 -- (f) the stamps above the limit, and the numbers that Make and Spawn drew

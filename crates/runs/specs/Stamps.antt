@@ -11,13 +11,8 @@ use Rattle.history.specs.declared.entry.Request.{Request}
 use Rattle.history.specs.declared.entry.Request.TheVariants as request
 use Rattle.history.specs.declared.entry.Plain.TheVariants as plain
 use Rattle.history.specs.Objects.{clean}
-use Rattle.runs.specs.Parts.{child_of}
+use Rattle.runs.specs.Parts.{Has, child_of}
 use Rattle.runs.specs.Interleaving.{Allowed}
-
--- the entry is one of these
-abbrev pub Has : List Entry → Entry → Type 0
-Has [] x = ⊥
-Has (e ∷ es) x = (e ≡ x) ⊎ Has es x
 
 -- the stamps rise, and are above n
 abbrev pub RisesFrom : ℕ → List Entry → Type 0

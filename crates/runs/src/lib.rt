@@ -3,15 +3,13 @@
 #![tactic(auto)]
 
 ghost use Rattle.runs.specs.Objects.{objects};
-ghost use Rattle.runs.specs.OneMerge.{OneMerge, OneRestriction};
+ghost use Rattle.runs.specs.OneMerge.{OneMerge};
 ghost use Rattle.runs.specs.ReplayLaw.{MakesAlone};
 ghost use Rattle.runs.specs.Theorem.{WeightsTellNumbers};
 
-/// The merge that runs speak of is the one by which a record is reported, and so are its parts on a
-/// thread and on an allocation.
+/// The merge that runs speak of is the one by which a record is reported.
 pub fn one_merge()
-    ensures merge { OneMerge }
-    ensures parts { OneRestriction }
+    ensures { OneMerge }
 {}
 
 /// An allocation is made by a Make alone, which answers its number, and starts no thread.
