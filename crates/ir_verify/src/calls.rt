@@ -2,7 +2,6 @@
 ghost use Rattle.std.specs.Prelude.{◌≡◌};
 ghost use Rattle.std.specs.Option.{option_copied};
 ghost use Rattle.ir_rules.specs.Walk.{held_in};
-ghost use Rattle.ir_verify.specs.Faults.{Finds};
 ghost use Rattle.ir_rules.specs.Checks.{call_fits, host_fits, join_fault, name_fault, op_fault, spawn_fits, unless};
 
 use crate::names::{Table, function_named, host_named, joined};
@@ -86,8 +85,6 @@ pub fn op_fault<'a>(
     registers: &BTreeMap<&'a [u8], Held<'a>>,
     op: &Op,
 ) -> Option<Fault>
-    requires functions { Finds (λ f. f.name.name) table.now.functions.now table.now.function_places }
-    requires hosts { Finds (λ h. h.name) table.now.hosts.now table.now.host_places }
     ensures { result ≡ op_fault table.now.functions.now table.now.hosts.now (held_in registers.now) op.now }
 {
     match op {

@@ -58,8 +58,7 @@ pub fn second_definitions<'a>(
 {
     let mut table = BTreeMap::new(alloc);
     let mut first = None;
-    for place in 0..names.len() {
-        let named = names[place];
+    for named in names {
         first = lesser_fault(first, twice_fault(&table, named));
         count(&mut table, named.name.as_slice())?;
     }
