@@ -53,7 +53,7 @@ waits M O p _ = false
 abbrev pub CanGoOn : (M : Machine) → (O : Memory) → Progress M O → ℕ → Type 0
 CanGoOn M O p t = (f : Fiber M) × (slice_get p.threads t ≡ Some f) × (f.«end» ≡ None) × (waits M O p (M.ask f.state) ≡ false)
 
--- an end that comes of the thread's own state, or of want of memory: nothing is drawn for it, and no other thread is asked
+-- an end that comes of the thread's own state, or of having no memory: nothing is drawn for it, and no other thread is asked
 abbrev pub IsOwnEnd : End → Type 0
 IsOwnEnd (log_end.Returned v p) = Unit {0}
 IsOwnEnd (log_end.Trapped t) = IsOwnTrap t

@@ -20,6 +20,7 @@ use Rattle.history.specs.Objects.{clean}
 use Rattle.runs.specs.Parts.{Has, child_of, of_alloc}
 use Rattle.runs.specs.Machine.{Machine, Memory}
 use Rattle.runs.specs.Interleaving.{Allowed, ByRequest, Legal}
+use Rattle.runs.specs.Merge.{all_entries}
 use Rattle.runs.specs.Threads.{IsThreadRun}
 use Rattle.runs.specs.Stamps.{RisesFrom}
 use Rattle.runs.specs.Right.{beyond_of, alloc_limit_of, thread_limit_of, alloc_numbers, thread_numbers, asks_make, asks_spawn, StandsAsking, AtLeast, counting_from, AllocsRiseFrom, history_of}
@@ -42,9 +43,6 @@ IsEntryRight A e =
     ((a : AllocNo) × (e.alloc ≡ Some a))
 
 -- lists of logs ------------------------------------------------------------------
-
-abbrev pub all_entries : List ThreadLog → List Entry
-all_entries logs = flat_map (λ log. log.entries) logs
 
 abbrev pub numbers_of : List ThreadLog → List ℕ
 numbers_of logs = map (λ log. log.number.0) logs

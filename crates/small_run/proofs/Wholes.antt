@@ -28,7 +28,7 @@ use Rattle.history.specs.declared.log.ThreadLog.{ThreadLog}
 use Rattle.history.specs.Records.{violates}
 use Rattle.runs.specs.Parts.{Has, of_thread, of_alloc, names, child_of, spawned_by}
 use Rattle.runs.specs.Stamps.{RisesFrom}
-use Rattle.runs.specs.Merge.{merged, merged_with, IsOwn, MayMerge, no_logs, one_more, IsPartwiseMerge}
+use Rattle.runs.specs.Merge.{merged, IsOwn, MayMerge, no_logs, one_more, IsPartwiseMerge}
 use Rattle.runs.specs.Interleaving.{Legal}
 use Rattle.runs.specs.Objects.{objects}
 use Rattle.runs.specs.Right.{IsRight, IsReached, is_main, HasThreads, HasRuns, HasHistories, HasCounts, Numbered, AllocsRiseFrom, history_of, counting_from, made_by, spawned_by_reply, alloc_limit_of, thread_limit_of, alloc_numbers, thread_numbers, beyond, beyond_of}
@@ -36,7 +36,7 @@ use Rattle.runs.specs.Threads.{IsThreadRun}
 use Rattle.runs.specs.Tree.{IsEntryRight}
 use Rattle.runs.specs.Theorem.{HasPromises}
 use Rattle.runs.proofs.Assembly.{promises_make_one_run}
-use Rattle.runs.proofs.MergeLaws.{merged_is_merge}
+use Rattle.runs.proofs.MergeLaws.{merged_with, merged_is_merge}
 use Rattle.runs.proofs.Differing.{rises_differ, both_differ, in_part, has_either, one_stamp, named_one}
 use Rattle.runs.proofs.Merges.{restrictions_swap, alloc_rises}
 use Rattle.source_sem.specs.Source.{source}

@@ -8,7 +8,7 @@ use Rattle.std.proofs.lemmas.Bool.Decides.{leb_tells}
 use Rattle.ir_ast.specs.Tokens.{Each}
 use Rattle.ir_ast.specs.Programs.{IsProgram, CanStand}
 use Rattle.ir_ast.specs.Grammar.{val_token}
-use Rattle.ir_ast.specs.Shapes.{IsVal, IsTyped, IsGoal, IsOp, HasType as NamesType, Defines, FitsDestination, IsInst, IsJump, IsBlock, IsFunction}
+use Rattle.ir_ast.specs.Shapes.{IsVal, IsTyped, IsGoal, IsOp, FitsDestination, IsInst, IsJump, IsBlock, IsFunction}
 use Rattle.ir_ast.specs.declared.hosts.HostTable.{HostTable}
 use Rattle.ir_ast.specs.declared.program.Block.{Block}
 use Rattle.ir_ast.specs.declared.program.Function.{Function}
@@ -31,7 +31,7 @@ use Rattle.ir_rules.specs.declared.rule.Rule.{Rule}
 use Rattle.ir_rules.specs.declared.rule.Rule.TheVariants.{Unknown, Twice, TypeClash, BadTarget, BadCall, HandleUse}
 use Rattle.ir_rules.specs.declared.rule.Wanted.{Wanted}
 use Rattle.ir_rules.specs.declared.rule.Wanted.TheVariants.{AValue, AHandle}
-use Rattle.ir_rules.specs.Occurrences.{Holds, Use, Event, param_event, or_none, op_gives, op_uses, val_uses, typed_uses, goal_uses, jump_uses, jump_goals, dest_events, inst_events, block_events, function_events}
+use Rattle.ir_rules.specs.Occurrences.{Holds, Use, Event, param_event, op_gives, op_uses, val_uses, typed_uses, goal_uses, jump_uses, jump_goals, dest_events, inst_events, block_events, function_events}
 use Rattle.ir_rules.specs.Occurrences.Holds.{value, handle}
 use Rattle.ir_rules.specs.Occurrences.Event.{defines, uses}
 use Rattle.ir_rules.specs.Rules.{held, used, UseBreaks, NameBreaks, CallFits, SpawnFits, HostFits, IsHostType, GoalFits, RetBreaks, JoinBreaks, OpBreaks, IsAccepted, function_named, host_named, function_ops, param_types, arg_types}

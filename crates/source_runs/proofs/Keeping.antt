@@ -38,8 +38,8 @@ use Rattle.history.specs.Replies.{trap_of}
 use Rattle.thread_parts.specs.Words.{blank, number_in}
 use Rattle.ir_ast.specs.Words.{word_bits}
 use Rattle.source_sem.specs.Env.{Env, value_in, arg_of, args_of, put, put_some}
-use Rattle.thread_parts.specs.Parts.{Part, Step, Access, Gives, Fails, Steps, Retags, Copies, Calls, Joins, Makes, Accesses, Prints, Hosts, Spawns, Loads, Stores, Modifies, Compares, Frees, step_ask, step_result, access_request, step_started, part_ask, retag_ask, chosen, makes_step}
-use Rattle.thread_parts.specs.Copies.{Progress, untouched, copy_after, copy_after_by, copied_of, copy_done, copy_ask, copy_ask_by}
+use Rattle.thread_parts.specs.Parts.{Part, Step, Access, Gives, Fails, Steps, Retags, Copies, Calls, Joins, Makes, Accesses, Prints, Hosts, Spawns, Loads, Stores, Modifies, Compares, Frees, step_ask, step_result, access_request, part_ask, chosen, makes_step}
+use Rattle.thread_parts.specs.Copies.{Progress, untouched, copy_after, copy_after_by, copied_of, copy_done, copy_ask_by}
 use Rattle.thread_parts.specs.Owned.{Owned, released, release_ask, release_by, step_owned}
 use Rattle.ir_ast.specs.Numbers.{block_place}
 use Rattle.thread_parts.specs.Fits.{IsWord, ValueIn, JoinFits, MadeAt, ReplyFits}

@@ -1,5 +1,5 @@
 -- Of a right record a report can be made.
-use Rattle.std.proofs.Common.{◌≡◌, ℕ, ◌<◌, ◌≤◌, ◌⊎◌, true, false, List, [], ◌∷◌, refl, sym, ◌∙◌, ap, subst, inl, inr, arith, map, nat_eq}
+use Rattle.std.proofs.Common.{◌≡◌, ℕ, ◌<◌, ◌≤◌, true, false, List, [], ◌∷◌, refl, sym, ◌∙◌, ap, subst, inl, inr, arith, map, nat_eq}
 use Rattle.std.specs.Prelude.{All, IsTrue, IsSome, ◌==◌, if◌then◌else◌}
 use Rattle.std.specs.List.{flat_map, IsDistinct, AllByRecursion}
 use Rattle.std.proofs.lemmas.Bool.Decides.{eqb_tells, nat_tests}
@@ -27,7 +27,6 @@ use Rattle.runs.specs.Right.{AllocsRiseFrom, history_of}
 use Rattle.runs.specs.Stamps.{RisesFrom}
 use Rattle.runs.proofs.Differing.{rises_differ, both_differ, in_part, has_either, one_stamp, named_one}
 use Rattle.runs.proofs.FiberLists.{numbered_rises}
-use Rattle.runs.proofs.MergesAgree.{agrees}
 use Rattle.runs.proofs.Merges.{in_own_thread}
 use Rattle.runs.proofs.Tying.{in_merge}
 use Rattle.source_runs.specs.Reportable.{RightRecordsAreReportable}
@@ -133,7 +132,7 @@ right_records_are_reportable program input hosts limits kept r = record {
   distinct = record {
     threads = IsDistinct-IsPermutation nat_eq eq_flips (map stamp_of (by_stamp (thread_entries kept))) (map stamp_of (thread_entries kept))
         (IsPermutation-sym (map stamp_of (thread_entries kept)) (map stamp_of (by_stamp (thread_entries kept))) (IsPermutation-map stamp_of (thread_entries kept) (by_stamp (thread_entries kept)) (by_stamp_moves (thread_entries kept))))
-        (subst (λ l. IsDistinct nat_eq (map stamp_of l)) (agrees kept.threads) (rises_differ 0 (merged kept.threads) rising));
+        (rises_differ 0 (merged kept.threads) rising);
     allocs = parts_differ (merged kept.threads) 0 limits.allocs kept.allocs rising r.histories.rise part;
   };
   described = All-from_recursion Described kept.allocs (all_allocs Described kept.allocs (λ log h. All-from_recursion EntryDescribed log.entries (all_entries EntryDescribed log.entries (λ e g bad. describe log h e g bad))));

@@ -29,7 +29,7 @@ use Rattle.runs.specs.Parts.{Has, of_thread, of_alloc, names, child_of}
 use Rattle.runs.specs.Machine.{TurnsTo}
 use Rattle.runs.specs.Threads.{IsThreadRun}
 use Rattle.runs.specs.Interleaving.{Event, HasReturned, Legal, World, first_world, world_after}
-use Rattle.runs.specs.Merge.{merged, MayMerge, no_logs, one_more, entries_of}
+use Rattle.runs.specs.Merge.{all_entries, merged, MayMerge, no_logs, one_more, entries_of}
 use Rattle.runs.specs.Objects.{objects}
 use Rattle.runs.specs.Stamps.{RisesFrom}
 use Rattle.runs.specs.Right.{HasThreads, HasRuns, HasHistories, HasCounts, IsSpawnedOnce, starts_thread, IsReached, is_main, is_spawned, AllocsRiseFrom, history_of, end_of}
@@ -317,7 +317,7 @@ entries_right t log e in_log in_e =
 
 at_most_six : (t : Told) → Stamped t → (e : Entry) → Has (merged (thread_logs t)) e → e.stamp.0 ≤ 6
 at_most_six t s e h =
-    elim (in_merged_with (main_log t).entries (merged (child_log t ∷ [])) e h) [
+    elim (in_merged_with (main_log t).entries (all_entries (child_log t ∷ [])) e h) [
       | inl main ↦ for_main t (λ z. z.stamp.0 ≤ 6) (omega arith) (omega arith)
           (let a = s.stored in let b = s.joined in let c = s.last in omega (arith, a, b, c))
           (let b = s.joined in let c = s.last in omega (arith, b, c)) s.last e main
@@ -356,7 +356,7 @@ none_named a (e ∷ es) none = rw (none e (inl refl)) (none_named a es (λ y h. 
 
 no_name : (t : Told) (a : ℕ) → (1 == a) ≡ false → (2 == a) ≡ false → of_alloc a (merged (thread_logs t)) ≡ []
 no_name t a one two = none_named a (merged (thread_logs t)) (λ e h.
-    elim (in_merged_with (main_log t).entries (merged (child_log t ∷ [])) e h) [
+    elim (in_merged_with (main_log t).entries (all_entries (child_log t ∷ [])) e h) [
       | inl main ↦ for_main t (λ z. names z.alloc a ≡ false) one two refl two refl e main
       | inr child ↦ for_child t (λ z. names z.alloc a ≡ false) one e child
     ])

@@ -134,7 +134,7 @@ right = record { spawn = 3; store = 4; child = 5; join = 6; joined = 0; verdict 
 abbrev pub early : Told
 early = record { spawn = 4; store = 5; child = 3; join = 6; joined = 0; verdict = verdict.Clean }
 
--- it stands behind the join
+-- it comes after the join
 abbrev pub late : Told
 late = record { spawn = 3; store = 4; child = 6; join = 5; joined = 0; verdict = verdict.Clean }
 

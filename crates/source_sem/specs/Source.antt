@@ -1,7 +1,6 @@
 -- The source thread: frames over the text, registers by name. With `tracked` false it is the thread of the plain program.
-use Rattle.std.specs.Prelude.{◌≡◌, ◌<◌, ◌⊎◌, ℕ, suc, ◌+◌, ◌%◌, ◌^◌, List, [], ◌∷◌, Option, Some, None, Bool, true, false, if◌then◌else◌, length, nat_lt, slice_get}
+use Rattle.std.specs.Prelude.{◌≡◌, ℕ, suc, ◌+◌, ◌%◌, ◌^◌, List, [], ◌∷◌, Option, Some, None, Bool, true, false, if◌then◌else◌, length, nat_lt, slice_get}
 use Rattle.std.specs.Option.{option_and_then}
-use Rattle.bsan_ids.specs.declared.numbers.AllocNo.{AllocNo}
 use Rattle.history.specs.declared.ask.Arg.{Arg}
 use Rattle.history.specs.declared.ask.Ask.{Ask}
 use Rattle.history.specs.declared.ask.Ask.TheVariants as ask
@@ -9,17 +8,13 @@ use Rattle.history.specs.declared.entry.Entry.{Entry}
 use Rattle.perm_table.specs.declared.Guard.TheVariants.{Free}
 use Rattle.history.specs.declared.ask.MachineEnd.{MachineEnd}
 use Rattle.history.specs.declared.ask.MachineEnd.TheVariants as end
-use Rattle.history.specs.declared.entry.Plain.{Plain}
-use Rattle.history.specs.declared.entry.Plain.TheVariants as plain
 use Rattle.history.specs.declared.entry.Reply.{Reply}
-use Rattle.history.specs.declared.entry.Request.{Request}
-use Rattle.history.specs.declared.entry.Request.TheVariants as request
 use Rattle.history.specs.declared.trap.Trap.{Trap}
 use Rattle.history.specs.declared.trap.Trap.TheVariants as trap
 use Rattle.ir_ast.specs.Numbers.{place, function_place, block_place, number_of_block, number_of_function}
 use Rattle.ir_ast.specs.Attributes.{guard_of, attr_of_call, definitions, attr_of_handle}
 use Rattle.ir_ast.specs.declared.types.Ty.{Ty}
-use Rattle.ir_ast.specs.declared.types.Ty.TheVariants.{Int, Ptr}
+use Rattle.ir_ast.specs.declared.types.Ty.TheVariants.{Ptr}
 use Rattle.ir_ast.specs.declared.types.Attr.{Attr}
 use Rattle.ir_ast.specs.declared.program.Block.{Block}
 use Rattle.ir_ast.specs.declared.program.Function.{Function}
@@ -36,7 +31,7 @@ use Rattle.ir_ast.specs.declared.program.TypedVal.{TypedVal}
 use Rattle.runs.specs.Machine.{Machine}
 use Rattle.runs.specs.Threads.{CountsTurns}
 use Rattle.history.specs.Replies.{trap_of}
-use Rattle.thread_parts.specs.Words.{blank, plain_arg, prov_at, arg_at, cut_at, number_in}
+use Rattle.thread_parts.specs.Words.{blank, plain_arg, arg_at, cut_at, number_in}
 use Rattle.ir_ast.specs.Words.{bits}
 use Rattle.source_sem.specs.Env.{Env, value_in, operand, arg_of, args_of, with_value, bind, put, put_some}
 use Rattle.thread_parts.specs.Parts.{Part, Gives, Steps, Retags, Copies, Calls, Joins, Accesses, Prints, Spawns, Loads, Stores, Modifies, Compares, Frees, part_ask, retag_ask, step_started, step_result, moved, binary_part, compared, chosen, cast_arg, input_arg, make_part, makes_step, retag_part, copy_part, call_part, host_part, join_part}
