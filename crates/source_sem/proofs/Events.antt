@@ -21,7 +21,6 @@ use Rattle.ir_ast.specs.declared.types.Ty.{Ty}
 use Rattle.ir_rules.specs.Occurrences.{Holds as Held, Use, Event, param_event, or_none, op_gives, op_uses, dest_events, inst_events, block_events, jump_uses, jump_goals, function_events}
 use Rattle.ir_rules.specs.Occurrences.Holds.{value, handle}
 use Rattle.ir_rules.specs.Occurrences.Event.{defines, uses}
-use Rattle.ir_rules.specs.Paths as paths
 use Rattle.ir_rules.specs.Paths.{Avoids, GoesTo}
 use Rattle.ir_rules.specs.Rules.{held}
 use Rattle.source_sem.specs.Joining.{IsHeld, StandsAt, IsSpawnOp}
@@ -170,21 +169,6 @@ params_apart g r f (p ∷ ps) all is = (λ same. clash (sym all.0 ∙ ap (held (
 
 -- blocks ---------------------------------------------------------------------------------
 
-flips_by : (a b : List ℕ) (e f : Bool) → bytes_eq a b ≡ e → bytes_eq b a ≡ f → f ≡ e
-flips_by a b true true t g = refl
-flips_by a b false false t g = refl
-flips_by a b true false t g = absurd (true≢false (sym ((bytes_decides b a).1 (sym ((bytes_decides a b).0 t))) ∙ g))
-flips_by a b false true t g = absurd (true≢false (sym ((bytes_decides a b).1 (sym ((bytes_decides b a).0 g))) ∙ t))
-
-place_by : (b : Block) (bs : List Block) (label : List ℕ) (c : ℕ) (e : Bool) → bytes_eq b.label.name label ≡ e → (if e then 0 else suc (block_place bs label)) ≡ c → c < suc (length bs)
-    → (block_place bs label < length bs → paths.block_place bs label ≡ Some (block_place bs label)) → paths.block_place (b ∷ bs) label ≡ Some c
-place_by b bs label c true t h less more = rw (flips_by b.label.name label true (bytes_eq label b.label.name) t refl) (ap Some h)
-place_by b bs label c false t h less more = rw (flips_by b.label.name label false (bytes_eq label b.label.name) t refl) (ap paths.option_suc (more (omega (arith, h, less))) ∙ ap Some h)
-
-place_alike : (bs : List Block) (label : List ℕ) (c : ℕ) → block_place bs label ≡ c → c < length bs → paths.block_place bs label ≡ Some c
-place_alike [] label c is less = absurd (omega (arith, less))
-place_alike (b ∷ bs) label c is less = place_by b bs label c (bytes_eq b.label.name label) refl is less (λ l. place_alike bs label (block_place bs label) refl l)
-
 within : {A : Type 0} (xs : List A) (k : ℕ) (x : A) → slice_get xs k ≡ Some x → k < length xs
 within [] k x is = cc
 within (y ∷ ys) zero x is = omega arith
@@ -193,4 +177,4 @@ within (y ∷ ys) (suc k) x is = let more = within ys k x is in omega (arith, mo
 -- a jump to a block that is there
 pub goes_to : (g : Function) (b : ℕ) (block to : Block) (goal : Goal) → slice_get g.blocks b ≡ Some block → Contains (jump_goals block.term.jump) goal → slice_get g.blocks (block_place g.blocks goal.label.name) ≡ Some to
     → GoesTo g b (block_place g.blocks goal.label.name)
-goes_to g b block to goal is jumps there = (block, goal, is, jumps, place_alike g.blocks goal.label.name (block_place g.blocks goal.label.name) refl (within g.blocks (block_place g.blocks goal.label.name) to there))
+goes_to g b block to goal is jumps there = (block, goal, is, jumps, refl, within g.blocks (block_place g.blocks goal.label.name) to there)

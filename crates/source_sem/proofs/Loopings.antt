@@ -1,6 +1,7 @@
 -- The program that spawns in a loop meets what joins need.
 use Rattle.std.proofs.Common.{◌≡◌, ℕ, zero, suc, ◌<◌, ◌≤◌, List, [], ◌∷◌, ◌++◌, refl, sym, ap, ◌∙◌, subst, inl, inr, arith, append-nil, append_assoc}
 use Rattle.std.specs.Prelude.{Some, None, slice_get, slice_index_or, ◌⊎◌, Contains}
+use Rattle.ir_ast.specs.Numbers.{block_place}
 use Rattle.ir_ast.specs.Shapes.{Defines}
 use Rattle.ir_ast.specs.declared.program.Block.{Block}
 use Rattle.ir_ast.specs.declared.program.Function.{Function}
@@ -11,7 +12,7 @@ use Rattle.ir_ast.specs.declared.types.Ty.{Ty}
 use Rattle.ir_rules.specs.declared.rule.Wanted.TheVariants.{AValue, AHandle}
 use Rattle.ir_rules.specs.Occurrences.{Holds as Held, Use, Event, block_events, jump_goals}
 use Rattle.ir_rules.specs.Occurrences.Event.{defines, uses}
-use Rattle.ir_rules.specs.Paths.{Avoids, AvoidsBlock, GoesTo, IsPath, IsUnassigned, block_place}
+use Rattle.ir_rules.specs.Paths.{Avoids, AvoidsBlock, GoesTo, IsPath, IsUnassigned}
 use Rattle.source_sem.specs.Joining.{StandsAt, FunctionJoins, JoinsAccepted}
 use Rattle.source_sem.specs.Traces.{named}
 use Rattle.source_sem.specs.Looping.{child_block, child, spawns, joins, adds, compares, joins_first, joins_second, entry_block, loop_block, branch_block, first_arm, second_arm, looping, program}
@@ -88,11 +89,8 @@ abbrev handle : List ℕ
 handle = 104 ∷ []
 
 -- the goal's block is this one
-to_block : (g h : Goal) (n c : ℕ) → g ≡ h → block_place looping.blocks g.label.name ≡ Some n → block_place looping.blocks h.label.name ≡ Some c → n ≡ c
-to_block g h n c is one two = some_nat (sym one ∙ ap (λ (z : Goal). block_place looping.blocks z.label.name) is ∙ two)
-  where
-    some_nat : Some n ≡ Some c → n ≡ c
-    some_nat e = cc
+to_block : (g h : Goal) (n c : ℕ) → g ≡ h → block_place looping.blocks g.label.name ≡ n → block_place looping.blocks h.label.name ≡ c → n ≡ c
+to_block g h n c is one two = sym one ∙ ap (λ (z : Goal). block_place looping.blocks z.label.name) is ∙ two
 
 edge : (b c : ℕ) → GoesTo looping b c → Edge b c
 edge b c e =
@@ -105,7 +103,7 @@ edge b c e =
     goal : Goal
     goal = e.1
 
-    to : block_place looping.blocks goal.label.name ≡ Some c
+    to : block_place looping.blocks goal.label.name ≡ c
     to = e.4
 
 -- after the loop each path went through it, where the handle is defined
