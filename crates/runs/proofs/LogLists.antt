@@ -8,10 +8,10 @@ use Rattle.std.proofs.lemmas.List.Sorted.{IsPermutation-sym, All-permutation, su
 use Rattle.std.proofs.lemmas.List.Sums.{sum_by-cons, sum_by-append}
 use Rattle.history.specs.declared.entry.Entry.{Entry}
 use Rattle.history.specs.declared.log.ThreadLog.{ThreadLog}
-use Rattle.runs.specs.Merge.{merged, entries_of}
+use Rattle.runs.specs.Merge.{all_entries, merged, entries_of}
 use Rattle.runs.specs.Parts.{Has, child_of}
 use Rattle.runs.specs.Right.{NumbersRiseFrom, AtLeast, end_of}
-use Rattle.runs.specs.Tree.{all_entries, numbers_of, children_of, started_by}
+use Rattle.runs.specs.Tree.{numbers_of, children_of, started_by}
 use Rattle.runs.proofs.Counting.{weigh_with, at_least_later}
 use Rattle.runs.proofs.RightErases.{number_above}
 use Rattle.runs.proofs.Weights.{equals, equals_cases, equals_same, equals_other, sum_flat, sum_map}
@@ -41,7 +41,7 @@ numbers_moved h xs ys p = sum_map h (λ (l : ThreadLog). l.number.0) ys ∙ sum_
 
 pub weigh_merged : (w : Entry → ℕ) (ls : List ThreadLog) → sum_by w (merged ls) ≡ sum_by w (all_entries ls)
 weigh_merged w [] = refl
-weigh_merged w (l ∷ ls) = let more = weigh_merged w ls in omega (arith, more, weigh_with w l.entries (merged ls), sum_by-append w l.entries (all_entries ls))
+weigh_merged w (l ∷ ls) = let more = weigh_merged w ls in omega (arith, more, weigh_with w l.entries (all_entries ls), sum_by-append w l.entries (all_entries ls))
 
 pub weigh_children : (h : ℕ → ℕ) (ls : List ThreadLog) → sum_by (λ (e : Entry). sum_by h (started_by (child_of e))) (all_entries ls) ≡ sum_by h (flat_map children_of ls)
 weigh_children h [] = refl

@@ -16,11 +16,11 @@ use Rattle.runs.specs.Parts.{Has, child_of, is_child, spawned_of}
 use Rattle.runs.specs.Machine.{Machine}
 use Rattle.runs.specs.Interleaving.{Allowed}
 use Rattle.runs.specs.Stamps.{RisesFrom, SpawnedBefore, StandsAmong, IsTied}
-use Rattle.history.specs.Merge.{put_by_stamp}
-use Rattle.runs.specs.Merge.{merged_with, merged, entries_of}
+use Rattle.history.specs.Merge.{by_stamp, put_by_stamp}
+use Rattle.runs.specs.Merge.{all_entries, merged, entries_of}
 use Rattle.runs.specs.Right.{HasThreads, HasRuns, end_of, Numbered, starts_thread}
 use Rattle.runs.specs.Tree.{HasStampOrder, IsEntryRight}
-use Rattle.runs.proofs.MergeLaws.{in_merged_with}
+use Rattle.runs.proofs.MergeLaws.{merged_with, in_merged_with}
 use Rattle.runs.proofs.Counting.{one_passes}
 use Rattle.runs.proofs.Order.{child_here}
 
@@ -30,7 +30,7 @@ spawned_inj h = cc
 -- the log in which an entry of the merge stands
 pub log_of_entry : (logs : List ThreadLog) (x : Entry) → Has (merged logs) x → (l : ThreadLog) × Has logs l × Has l.entries x
 log_of_entry [] x h = absurd h
-log_of_entry (l ∷ ls) x h = elim (in_merged_with l.entries (merged ls) x h) [
+log_of_entry (l ∷ ls) x h = elim (in_merged_with l.entries (all_entries ls) x h) [
   | inl own ↦ (l, inl refl, own)
   | inr other ↦ let r = log_of_entry ls x other in (r.0, inr r.1, r.2)
 ]
@@ -57,14 +57,14 @@ in_merge_own [] ys z h = absurd h
 in_merge_own (x ∷ xs) ys z (inl same) = subst (λ w. Has (put_by_stamp x (merged_with xs ys)) w) same (in_inserted_first x (merged_with xs ys))
 in_merge_own (x ∷ xs) ys z (inr h) = in_inserted_rest x (merged_with xs ys) z (in_merge_own xs ys z h)
 
-pub in_merge_other : (xs ys : List Entry) (z : Entry) → Has ys z → Has (merged_with xs ys) z
+pub in_merge_other : (xs ys : List Entry) (z : Entry) → Has (by_stamp ys) z → Has (merged_with xs ys) z
 in_merge_other [] ys z h = h
 in_merge_other (x ∷ xs) ys z h = in_inserted_rest x (merged_with xs ys) z (in_merge_other xs ys z h)
 
 pub in_merge : (logs : List ThreadLog) (l : ThreadLog) (x : Entry) → Has logs l → Has l.entries x → Has (merged logs) x
 in_merge [] l x g h = absurd g
-in_merge (k ∷ ks) l x (inl same) h = in_merge_own k.entries (merged ks) x (subst (λ (m : ThreadLog). Has m.entries x) (sym same) h)
-in_merge (k ∷ ks) l x (inr g) h = in_merge_other k.entries (merged ks) x (in_merge ks l x g h)
+in_merge (k ∷ ks) l x (inl same) h = in_merge_own k.entries (all_entries ks) x (subst (λ (m : ThreadLog). Has m.entries x) (sym same) h)
+in_merge (k ∷ ks) l x (inr g) h = in_merge_other k.entries (all_entries ks) x (in_merge ks l x g h)
 
 pub log_of_part : (logs : List ThreadLog) (t : ℕ) (x : Entry) → Has (entries_of logs t) x → (l : ThreadLog) × Has logs l × Has l.entries x
 log_of_part [] t x h = absurd h

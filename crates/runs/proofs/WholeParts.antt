@@ -18,12 +18,12 @@ use Rattle.history.specs.declared.log.End.{End}
 use Rattle.history.specs.declared.log.ThreadLog.{ThreadLog}
 use Rattle.runs.specs.Interleaving.{World, world_after, Allowed, Replies, Interleaves, Legal, MakesUnmade}
 use Rattle.runs.specs.Machine.{Machine, Memory}
-use Rattle.runs.specs.Merge.{IsOwn, MayMerge, no_logs, one_more}
+use Rattle.runs.specs.Merge.{all_entries, IsOwn, MayMerge, no_logs, one_more}
 use Rattle.runs.specs.Parts.{Has, names, of_alloc, child_of, is_child, spawned_by, spawned_of}
 use Rattle.runs.specs.ReplayLaw.{makes, MakesAlone}
 use Rattle.runs.specs.Right.{AllocsRiseFrom, history_of, starts_thread, beyond, beyond_of, made_by, spawned_by_reply}
 use Rattle.runs.specs.Stamps.{RisesFrom}
-use Rattle.runs.specs.Tree.{all_entries, stamps_of, started_by, Firsts, Agrees, first_numbers}
+use Rattle.runs.specs.Tree.{stamps_of, started_by, Firsts, Agrees, first_numbers}
 use Rattle.runs.proofs.Counting.{one_if}
 use Rattle.runs.proofs.LogLists.{entry_weighs, log_weighs}
 use Rattle.runs.proofs.ReplaySums.{spawns}

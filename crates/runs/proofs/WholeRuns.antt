@@ -22,7 +22,7 @@ use Rattle.history.specs.declared.log.ThreadLog.{ThreadLog}
 use Rattle.history.specs.declared.record.RunRecord.{RunRecord}
 use Rattle.runs.specs.Interleaving.{Allowed, Legal, first_world}
 use Rattle.runs.specs.Machine.{Machine, Memory}
-use Rattle.runs.specs.Merge.{merged, MayMerge, IsPartwiseMerge}
+use Rattle.runs.specs.Merge.{all_entries, merged, MayMerge, IsPartwiseMerge}
 use Rattle.runs.specs.Parts.{Has, names, of_alloc, of_thread, child_of, spawned_by, spawned_of}
 use Rattle.runs.specs.ReplayLaw.{makes, MakesAlone}
 use Rattle.history.specs.Histories.{is_make_step}
@@ -30,7 +30,7 @@ use Rattle.runs.specs.Right.{NumbersRiseFrom, HasThreads, HasRuns, HasHistories,
 use Rattle.runs.specs.Stamps.{RisesFrom}
 use Rattle.runs.specs.Theorem.{HasPromises, WholeRunsAreRight, NumbersDiffer}
 use Rattle.runs.specs.Threads.{EndsAs}
-use Rattle.runs.specs.Tree.{HasStampOrder, IsEntryRight, all_entries, numbers_of, stamps_of, started_by, children_of, IsStarted, AreRuns, IsTree, IsWholeRun}
+use Rattle.runs.specs.Tree.{HasStampOrder, IsEntryRight, numbers_of, stamps_of, started_by, children_of, IsStarted, AreRuns, IsTree, IsWholeRun}
 use Rattle.runs.proofs.Assembly.{promises_make_one_run}
 use Rattle.runs.proofs.Counting.{one_if, one_passes, count_there}
 use Rattle.runs.proofs.Countings.{length_counting, counting_once, counting_zero, once_differ, counting_high, counting_split, up_to, above, one, low_up_to, low_above, high_up_to, high_above, counting_up_to, counting_beyond, counting_not_above, counting_above, Cut, cut, some_drawn}

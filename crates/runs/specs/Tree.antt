@@ -19,7 +19,8 @@ use Rattle.history.specs.declared.log.ThreadLog.{ThreadLog}
 use Rattle.history.specs.Objects.{clean}
 use Rattle.runs.specs.Parts.{Has, child_of, of_alloc}
 use Rattle.runs.specs.Machine.{Machine, Memory}
-use Rattle.runs.specs.Interleaving.{Allowed, Legal}
+use Rattle.runs.specs.Interleaving.{Allowed, ByRequest, Legal}
+use Rattle.runs.specs.Merge.{all_entries}
 use Rattle.runs.specs.Threads.{IsThreadRun}
 use Rattle.runs.specs.Stamps.{RisesFrom}
 use Rattle.runs.specs.Right.{beyond_of, alloc_limit_of, thread_limit_of, alloc_numbers, thread_numbers, asks_make, asks_spawn, StandsAsking, AtLeast, counting_from, AllocsRiseFrom, history_of}
@@ -35,18 +36,13 @@ pub record HasStampOrder (logs : List ThreadLog) : Type 0 where
 
 -- what an entry says besides, by itself
 abbrev pub IsEntryRight : Allowed → Entry → Request → Type 0
-IsEntryRight A e (request.Make size place) = (a : AllocNo) × (e.alloc ≡ Some a) × (0 < a.0) × (a.0 ≤ A.allocs)
-IsEntryRight A e (request.Print v) = e.reply ≡ clean plain.Done None
-IsEntryRight A e (request.Host n x y) = (v : ℕ) × A.host n x y v × (e.reply ≡ clean (plain.Value v) None)
-IsEntryRight A e (request.Spawn f) =
-    (c : ThreadNo) × (0 < c.0) × (c.0 ≤ 1023) × (e.reply ≡ clean (plain.Spawned c) None)
-IsEntryRight A e (request.Join c) = (0 < c.0) × (e.reply.verdict ≡ verdict.Clean)
-IsEntryRight A e _ = (a : AllocNo) × (e.alloc ≡ Some a)
+IsEntryRight A e =
+    ByRequest A e ((a : AllocNo) × (e.alloc ≡ Some a) × (0 < a.0) × (a.0 ≤ A.allocs))
+    ((c : ThreadNo) × (0 < c.0) × (c.0 ≤ 1023) × (e.reply ≡ clean (plain.Spawned c) None))
+    (λ c. ((0 < c.0) × (e.reply.verdict ≡ verdict.Clean)))
+    ((a : AllocNo) × (e.alloc ≡ Some a))
 
 -- lists of logs ------------------------------------------------------------------
-
-abbrev pub all_entries : List ThreadLog → List Entry
-all_entries logs = flat_map (λ log. log.entries) logs
 
 abbrev pub numbers_of : List ThreadLog → List ℕ
 numbers_of logs = map (λ log. log.number.0) logs

@@ -1,5 +1,5 @@
 -- What events avoid, and what they say that registers hold.
-use Rattle.std.proofs.Common.{◌≡◌, ◌≢◌, ℕ, zero, suc, ◌<◌, ◌≤◌, Bool, true, false, List, [], ◌∷◌, ◌++◌, length, map, refl, sym, ap, subst, ◌∙◌, append_assoc, arith}
+use Rattle.std.proofs.Common.{◌≡◌, ◌≢◌, ℕ, zero, suc, ◌<◌, Bool, true, false, List, [], ◌∷◌, ◌++◌, length, map, refl, sym, ap, subst, ◌∙◌, arith}
 use Rattle.std.specs.Prelude.{slice_get, Option, Some, None, if◌then◌else◌, Contains}
 use Rattle.std.specs.List.{flat_map}
 use Rattle.std.specs.Str.{bytes_eq}
@@ -23,7 +23,7 @@ use Rattle.ir_rules.specs.Occurrences.Holds.{value, handle}
 use Rattle.ir_rules.specs.Occurrences.Event.{defines, uses}
 use Rattle.ir_rules.specs.Paths.{Avoids, GoesTo}
 use Rattle.ir_rules.specs.Rules.{held}
-use Rattle.source_sem.specs.Joining.{IsHeld, JoinsFit, StandsAt, IsSpawnOp}
+use Rattle.source_sem.specs.Joining.{IsHeld, StandsAt, IsSpawnOp}
 
 -- what holds of each element ------------------------------------------------------
 

@@ -1,5 +1,5 @@
 -- A frame's handles name children that its thread has started.
-use Rattle.std.proofs.Common.{◌≡◌, ◌≢◌, ℕ, List, [], ◌∷◌, ◌++◌, Option, Some, None, Bool, true, false, map, refl, sym, ap, ◌∙◌, subst, if◌then◌else◌, slice_get, inr, append_assoc}
+use Rattle.std.proofs.Common.{◌≡◌, ℕ, List, [], ◌∷◌, ◌++◌, Option, Some, None, Bool, true, false, map, refl, sym, ap, ◌∙◌, subst, if◌then◌else◌, slice_get, inr, append_assoc}
 use Rattle.std.specs.List.{flat_map}
 use Rattle.std.specs.Str.{bytes_eq}
 use Rattle.std.specs.Cmp.Lexicographic.{bytes_decides}
@@ -23,7 +23,7 @@ use Rattle.thread_parts.specs.Words.{blank, arg_at}
 use Rattle.source_sem.specs.Env.{Env, value_in, with_value, bind}
 use Rattle.runs.specs.Parts.{Has}
 use Rattle.source_sem.specs.Joining.{IsHeld, JoinsFit, FunctionJoins, IsUnassignedAfter, StandsAt, IsSpawnOp, is_bound, HasHandles}
-use Rattle.source_sem.proofs.Events.{each_in, inst_held, entry_held, params_held, spawn_alone, apart, other_name, avoid_more, avoid_front, avoid_block, params_apart}
+use Rattle.source_sem.proofs.Events.{inst_held, entry_held, params_held, spawn_alone, apart, other_name, avoid_more, avoid_front, avoid_block, params_apart}
 use Rattle.source_sem.proofs.Writes.{value_in-with_value, is_bound-with_value}
 
 pub or_false : (b c : Bool) → (if b then true else c) ≡ false → (b ≡ false) × (c ≡ false)

@@ -1,8 +1,8 @@
 -- The program that spawns in a loop meets what joins need.
-use Rattle.std.proofs.Common.{◌≡◌, ◌≢◌, ℕ, zero, suc, ◌<◌, ◌≤◌, Bool, true, false, List, [], ◌∷◌, ◌++◌, refl, sym, ap, ◌∙◌, subst, inl, inr, arith, append-nil, append_assoc}
+use Rattle.std.proofs.Common.{◌≡◌, ℕ, zero, suc, ◌<◌, ◌≤◌, List, [], ◌∷◌, ◌++◌, refl, sym, ap, ◌∙◌, subst, inl, inr, arith, append-nil, append_assoc}
 use Rattle.std.specs.Prelude.{Some, None, slice_get, slice_index_or, ◌⊎◌, Contains}
+use Rattle.ir_ast.specs.Numbers.{block_place}
 use Rattle.ir_ast.specs.Shapes.{Defines}
-use Rattle.ir_ast.specs.Tokens.{Each}
 use Rattle.ir_ast.specs.declared.program.Block.{Block}
 use Rattle.ir_ast.specs.declared.program.Function.{Function}
 use Rattle.ir_ast.specs.declared.program.Goal.{Goal}
@@ -10,11 +10,11 @@ use Rattle.ir_ast.specs.declared.program.Inst.{Inst}
 use Rattle.ir_ast.specs.declared.program.Named.{Named}
 use Rattle.ir_ast.specs.declared.types.Ty.{Ty}
 use Rattle.ir_rules.specs.declared.rule.Wanted.TheVariants.{AValue, AHandle}
-use Rattle.ir_rules.specs.Occurrences.{Holds as Held, Use, Event, block_events, jump_goals, function_events}
+use Rattle.ir_rules.specs.Occurrences.{Holds as Held, Use, Event, block_events, jump_goals}
 use Rattle.ir_rules.specs.Occurrences.Event.{defines, uses}
 use Rattle.ir_ast.specs.Numbers.{block_place}
 use Rattle.ir_rules.specs.Paths.{Avoids, AvoidsBlock, GoesTo, IsPath, IsUnassigned}
-use Rattle.source_sem.specs.Joining.{IsHeld, StandsAt, FunctionJoins, JoinsAccepted}
+use Rattle.source_sem.specs.Joining.{StandsAt, FunctionJoins, JoinsAccepted}
 use Rattle.source_sem.specs.Traces.{named}
 use Rattle.source_sem.specs.Looping.{child_block, child, spawns, joins, adds, compares, joins_first, joins_second, entry_block, loop_block, branch_block, first_arm, second_arm, looping, program}
 

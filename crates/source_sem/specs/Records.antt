@@ -1,5 +1,5 @@
 -- The runs of a program with its input, its limits and its table of host functions, and the records that are right for them.
-use Rattle.std.specs.Prelude.{ℕ, List, [], Option, Some, None, slice_get}
+use Rattle.std.specs.Prelude.{ℕ, List, [], slice_get}
 use Rattle.bsan_ids.specs.declared.numbers.Limits.{Limits}
 use Rattle.ir_ast.specs.declared.hosts.HostTable.{HostTable}
 use Rattle.ir_ast.specs.declared.program.Program.{Program}
