@@ -11,11 +11,11 @@ use Rattle.ir_rules.specs.declared.rule.Rule.{Rule}
 use Rattle.ir_rules.specs.declared.rule.Rule.TheVariants.{Unassigned, BadTarget, NoMain}
 use Rattle.ir_rules.specs.declared.rule.Fault.{Fault}
 use Rattle.ir_rules.specs.Least.{fault, lesser, IsLeast}
-use Rattle.ir_rules.specs.Occurrences.{jump_goals, function_events}
+use Rattle.ir_rules.specs.Occurrences.{function_events}
 use Rattle.ir_rules.specs.Rules.{OpBreaks, function_ops, Broken, BrokenFault, UnassignedFault}
 use Rattle.ir_rules.specs.Rules.Broken.{of_use, of_op, twice_register, twice_label, twice_function, of_ret, of_path, of_goal, of_first, no_main}
 use Rattle.ir_rules.proofs.Least.{least-or, least-same}
-use Rattle.ir_verify.specs.Faults.{InstFault, GoalFault, BlockFault, FunctionFault, ProgramFault}
+use Rattle.ir_verify.specs.Faults.{BlockFault, FunctionFault, ProgramFault}
 use Rattle.ir_rules.proofs.Any.{in-map, map-in, in-flat, flat-in}
 
 broken_at : (p : Program) (hosts : HostTable) (x y : Fault) → x ≡ y → BrokenFault p hosts y → BrokenFault p hosts x

@@ -7,8 +7,7 @@ ghost use Rattle.ir_rules.specs.Checks.{call_fits, host_fits, join_fault, name_f
 use crate::names::{Table, function_named, host_named, joined};
 use crate::types::{all_host_types, is_conversion, is_host_type, same_result, takes};
 use ir_ast::{Function, HostEntry, Named, Op, Ty, TypedVal};
-use ir_rules::Held;
-use ir_rules::{Fault, Rule};
+use ir_rules::{Fault, Held, Rule};
 use std::collections::BTreeMap;
 
 /// The fault, unless the test holds.

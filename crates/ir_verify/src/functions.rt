@@ -12,8 +12,10 @@ use crate::names::{Table, label_names};
 use crate::targets::{first_block_fault, goals_fault, ret_fault};
 use crate::twice::{definitions, second_definitions};
 use ir_ast::{Block, Function};
-use ir_rules::{Fault, Held, Occurrence, lesser_fault};
-use ir_rules::{function_occurrences, label_places, registers, wrong_uses};
+use ir_rules::{
+    Fault, Held, Occurrence, function_occurrences, label_places, lesser_fault, registers,
+    wrong_uses,
+};
 use std::alloc::{AllocError, Global};
 use std::collections::BTreeMap;
 

@@ -55,9 +55,6 @@ pub fn verify(alloc: Global, program: Program, hosts: &HostTable) -> Result<Veri
             rule: fault.rule,
             at: fault.at,
         }),
-        None => {
-            let verified = accept(program, hosts)?;
-            Ok(verified)
-        }
+        None => Ok(accept(program, hosts)?),
     }
 }

@@ -12,7 +12,6 @@ use Rattle.ir_ast.specs.declared.types.Ty.{Ty}
 use Rattle.ir_rules.specs.declared.rule.Wanted.TheVariants.{AValue, AHandle}
 use Rattle.ir_rules.specs.Occurrences.{Holds as Held, Use, Event, block_events, jump_goals}
 use Rattle.ir_rules.specs.Occurrences.Event.{defines, uses}
-use Rattle.ir_ast.specs.Numbers.{block_place}
 use Rattle.ir_rules.specs.Paths.{Avoids, AvoidsBlock, GoesTo, IsPath, IsUnassigned}
 use Rattle.source_sem.specs.Joining.{StandsAt, FunctionJoins, JoinsAccepted}
 use Rattle.source_sem.specs.Traces.{named}
