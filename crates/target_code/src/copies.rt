@@ -1,0 +1,106 @@
+//! Lines, functions and target code once more, with memory of their own.
+ghost use Rattle.std.specs.Prelude.{◌≡◌, ◌++◌, drop, IfOk};
+
+use crate::line::{Line, Target, TargetFunction};
+use bsan_ids::{Copied, ListOf, NoMemory};
+use std::alloc::Global;
+
+/// A line like this one: those without fields, those whose fields are copied by their bits, and the
+/// call of the host, whose operands are a list.
+macro_rules! same_line {
+    ($line:expr; $($plain:ident),*; $($variant:ident { $($field:ident),* })*) => {
+        match $line {
+            $(Line::$plain => Line::$plain,)*
+            $(Line::$variant { $($field),* } => Line::$variant { $($field: *$field),* },)*
+            Line::Host { slot, host, args } => Line::Host {
+                slot: *slot,
+                host: *host,
+                args: args.copy()?,
+            },
+        }
+    };
+}
+
+impl Copied for Line {
+    fn copy(&self) -> Result<Line, NoMemory> {
+        Ok(same_line! {
+            self;
+            PushFrame, PopFrame, Return, Unreachable;
+            Turn { number }
+            Param { slot, index }
+            ShadowParam { shadow, index }
+            Const { slot, ty, value }
+            Move { slot, from }
+            ShadowMove { shadow, from }
+            Make { slot, shadow, place, size }
+            Gep { slot, ptr, add }
+            CheckRead { ptr, ptr_shadow, bytes }
+            Load { slot, ty, ptr }
+            Loaded { shadow }
+            Stored { from }
+            CheckWrite { ptr, ptr_shadow, bytes }
+            Store { ty, value, ptr }
+            Retag { shadow, kind, guard, ptr, ptr_shadow, size }
+            Binary { slot, op, width, a, b }
+            Compare { slot, cond, ty, a, b }
+            Select { slot, ty, cond, a, b }
+            ShadowSelect { shadow, cond, a, b }
+            Cast { slot, op, from, value, to }
+            PtrToInt { slot, ptr }
+            Input { slot, index }
+            Modify { slot, op, width, ptr, value }
+            CmpXchg { slot, width, ptr, expected, value }
+            CheckCopy { to, to_shadow, from, from_shadow, len }
+            Copy { to, from, len }
+            CheckFree { ptr, ptr_shadow }
+            Free { ptr }
+            Print { width, value }
+            Arg { index, value }
+            ShadowArg { index, from }
+            TakeArg { slot, index }
+            TakeShadowArg { shadow, index }
+            Call { function }
+            CallResult { slot }
+            ShadowCallResult { shadow }
+            RetagResult { kind, size }
+            Spawn { slot, function }
+            Join { handle }
+            Branch { cond }
+            Jump { block }
+            Result { value }
+            ShadowResult { from }
+        })
+    }
+}
+
+fn copy_blocks(alloc: Global, blocks: &[ListOf<Line>]) -> Result<ListOf<ListOf<Line>>, NoMemory>
+    ensures { IfOk result (λ copies. copies ≡ blocks.now) }
+{
+    let mut copies = ListOf::new(alloc);
+    for block in blocks {
+        copies.push(block.copy_each()?)?;
+    }
+    Ok(copies)
+}
+
+impl Copied for TargetFunction {
+    fn copy(&self) -> Result<TargetFunction, NoMemory> {
+        let name = self.name.copy()?.into_vec();
+        let alloc = *name.allocator();
+        Ok(TargetFunction {
+            name: ListOf::from_vec(name),
+            slots: self.slots,
+            entry: self.entry.copy_each()?,
+            blocks: copy_blocks(alloc, self.blocks.as_slice())?,
+        })
+    }
+}
+
+impl Copied for Target {
+    fn copy(&self) -> Result<Target, NoMemory> {
+        Ok(Target {
+            version: self.version,
+            functions: self.functions.copy_each()?,
+        })
+    }
+}
