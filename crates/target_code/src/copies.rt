@@ -1,9 +1,13 @@
 //! Lines, functions and target code once more, with memory of their own.
-ghost use Rattle.std.specs.Prelude.{◌≡◌, ◌++◌, drop, IfOk};
+use crate::line::{Line, Operand, Target, TargetFunction};
+use bsan_ids::{Copied, NoMemory};
 
-use crate::line::{Line, Target, TargetFunction};
-use bsan_ids::{Copied, ListOf, NoMemory};
-use std::alloc::Global;
+/// It takes no memory.
+impl Copied for Operand {
+    fn copy(&self) -> Result<Operand, NoMemory> {
+        Ok(*self)
+    }
+}
 
 /// A line like this one: those without fields, those whose fields are copied by their bits, and the
 /// call of the host, whose operands are a list.
@@ -73,25 +77,13 @@ impl Copied for Line {
     }
 }
 
-fn copy_blocks(alloc: Global, blocks: &[ListOf<Line>]) -> Result<ListOf<ListOf<Line>>, NoMemory>
-    ensures { IfOk result (λ copies. copies ≡ blocks.now) }
-{
-    let mut copies = ListOf::new(alloc);
-    for block in blocks {
-        copies.push(block.copy_each()?)?;
-    }
-    Ok(copies)
-}
-
 impl Copied for TargetFunction {
     fn copy(&self) -> Result<TargetFunction, NoMemory> {
-        let name = self.name.copy()?.into_vec();
-        let alloc = *name.allocator();
         Ok(TargetFunction {
-            name: ListOf::from_vec(name),
+            name: self.name.copy()?,
             slots: self.slots,
-            entry: self.entry.copy_each()?,
-            blocks: copy_blocks(alloc, self.blocks.as_slice())?,
+            entry: self.entry.copy()?,
+            blocks: self.blocks.copy()?,
         })
     }
 }
@@ -100,7 +92,7 @@ impl Copied for Target {
     fn copy(&self) -> Result<Target, NoMemory> {
         Ok(Target {
             version: self.version,
-            functions: self.functions.copy_each()?,
+            functions: self.functions.copy()?,
         })
     }
 }
