@@ -5,7 +5,7 @@ ghost use Rattle.eager_tree.specs.Tree.{with_root};
 ghost use Rattle.eager_tree.specs.Steps.{access as access_of, retag as retag_of, free_all as free_of};
 ghost use Rattle.ir_ast.specs.Words.{ty_bytes, modulus};
 ghost use Rattle.history.specs.declared.entry.Request.TheVariants.{Load as LoadRequest, Store as StoreRequest, Modify as ModifyRequest, CmpXchg as CmpXchgRequest, CopyOut as CopyOutRequest, CopyIn as CopyInRequest, Retag as RetagRequest, EndProtector as EndRequest, Free as FreeRequest};
-ghost use Rattle.history.specs.Objects.{answer, judged, judged_by, node_through, retag_judged, end_judged};
+ghost use Rattle.history.specs.Objects.{answer, judged, judged_by, node_through, retag_judged, end_judged, reborrow};
 ghost use Rattle.history.specs.Memory.{trap_in, word_at, with_word, put};
 ghost use Rattle.history.specs.Fragments.{piece_at, stored_as};
 ghost use Rattle.alloc_state.specs.ShortReplies.{reply_of};
@@ -504,7 +504,7 @@ impl MadeState {
         requires room { 1 ≤ self.old.node_room }
         requires some { 1 ≤ span.len }
         requires newest { All (λ n. n.tag.0 < tag.0) self.old.made.tree.nodes }
-        ensures judged { judged_of result self.new.made ≡ retag_judged number.0 self.old.made (RetagRequest span.start span.len kind guard prov) tag.0 }
+        ensures judged { judged_of result self.new.made ≡ retag_judged number.0 self.old.made (reborrow span.start span.len kind guard prov) tag.0 }
         ensures memory { self.new.made.memory ≡ self.old.made.memory }
         ensures shadow { self.new.made.shadow ≡ self.old.made.shadow }
     {

@@ -4,11 +4,9 @@ ghost use Rattle.eager_tree.specs.Tree.{new_tree, is_node, with_root};
 ghost use Rattle.eager_tree.specs.Steps.{access as access_of, retag as retag_of, end_protector as end_of, free_all as free_of};
 
 use crate::node::{Cell, Node};
-use crate::sweep::{
-    Sweep, are_older, cells_of, copy_of, fill, free_guard, holds_tag, strongly_held,
-};
-use bsan_ids::{ListOf, NoMemory, Span, Tag};
+use crate::sweep::{Sweep, are_older, cells_of, fill, free_guard, holds_tag, strongly_held};
 use crate::violation::Violation;
+use bsan_ids::{Copied, ListOf, NoMemory, Span, Tag, copy_vec};
 use perm_table::{Guard, Kind, Perm, RetagKind, start};
 use std::alloc::Global;
 use std::marker::Model;
@@ -61,18 +59,6 @@ impl EagerTree {
         })
     }
 
-    /// The same tree, without room for a further node.
-    pub fn copy(&self) -> Result<EagerTree, NoMemory>
-        ensures { IfOk result (λ t. t ≡ record { tree = self.now.tree; spare = 0 }) }
-    {
-        let nodes = copy_of(*self.nodes.allocator(), &self.nodes)?;
-        Ok(EagerTree {
-            size: self.size,
-            nodes,
-            ready: None,
-        })
-    }
-
     /// Whether a node has this tag.
     pub fn has(&self, tag: Tag) -> bool
         ensures { result ≡ is_node self.now.tree tag }
@@ -115,7 +101,10 @@ impl EagerTree {
     /// begins with one state on all bytes, and counts the bytes of the span alone as accessed.
     ///
     /// The span is at least one byte of the allocation, and the tag greater than each of the tree.
-    /// Where memory is wanting nothing changes.
+    ///
+    /// # Errors
+    ///
+    /// `NoMemory`: out of memory. The tree stays as it was.
     pub fn retag(
         &mut self,
         parent: Tag,
@@ -142,6 +131,7 @@ impl EagerTree {
         }
         let alloc = *self.nodes.allocator();
         let cells = cells_of(alloc, start(kind, guard), span, self.size)?;
+        // one for the child, and one so that the room which `reserve_node` made stays
         self.nodes.reserve(2)?;
         sweep.apply(&mut self.nodes, parent, self.size);
         let child = Node::child(parent, tag, guard, cells);
@@ -204,7 +194,7 @@ impl EagerTree {
     ///
     /// # Errors
     ///
-    /// `NoMemory`: want of memory, where there was no room. The tree stays as it was.
+    /// `NoMemory`: out of memory, where there was no room. The tree stays as it was.
     pub fn reserve_node(&mut self) -> Result<(), NoMemory>
         ensures ok { OnOk result (1 ≤ self.new.spare) }
         ensures succeeds { 1 ≤ self.old.spare → IsOk result }
@@ -258,5 +248,15 @@ impl EagerTree {
         let child = Node::child(parent, tag, guard, cells);
         self.nodes.push_reserved(child);
         None
+    }
+}
+
+impl Copied for EagerTree {
+    fn copy(&self) -> Result<EagerTree, NoMemory> {
+        Ok(EagerTree {
+            size: self.size,
+            nodes: copy_vec(&self.nodes)?,
+            ready: self.ready.copy()?,
+        })
     }
 }

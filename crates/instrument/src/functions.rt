@@ -14,7 +14,7 @@ ghost use Rattle.instrument.specs.Lines.{Adds};
 use crate::operands::put_for_ptr;
 use crate::operations::{put_inst, put_jump};
 use crate::scope::{Functions, Scope};
-use bsan_ids::{ListOf, NoMemory};
+use bsan_ids::{Copied, ListOf, NoMemory};
 use ir_ast::{Attr, Block, Function, HostEntry, HostTable, Inst, Param, Program};
 use perm_table::{Guard, RetagKind};
 use std::alloc::Global;

@@ -5,7 +5,8 @@ use Rattle.std.proofs.lemmas.List.Elements.{All-append, All-cons, All-drop, All-
 use Rattle.std.proofs.lemmas.List.{length-replicate}
 use Rattle.bsan_ids.specs.declared.numbers.Frag.{Frag}
 use Rattle.bsan_ids.specs.declared.numbers.Prov.{Prov}
-use Rattle.history.specs.Fragments.{fragments_from, stored, same_prov, is_run, loaded}
+use Rattle.history.specs.Pieces.{fragments_from}
+use Rattle.history.specs.Fragments.{stored, same_prov, is_run, loaded}
 use Rattle.history.specs.Memory.{put, in_range}
 use Rattle.range_map.specs.Ranges.{Ranges, overwrite}
 use Rattle.shadow_mem.specs.declared.Origin.{Origin}

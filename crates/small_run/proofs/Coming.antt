@@ -13,7 +13,7 @@ use Rattle.history.specs.declared.entry.Entry.{Entry}
 use Rattle.history.specs.declared.entry.Plain.{Plain}
 use Rattle.history.specs.declared.entry.Plain.TheVariants as plain
 use Rattle.history.specs.declared.entry.Reply.{Reply}
-use Rattle.history.specs.Objects.{Object, unmade, answer, retag_answer, prov_of}
+use Rattle.history.specs.Objects.{Object, unmade, answer, retag_answer, prov_of, reborrow}
 use Rattle.history.specs.Objects as Objects
 use Rattle.bsan_ids.specs.declared.numbers.Stamp.{Stamp}
 use Rattle.perm_table.specs.declared.Guard.{Guard}
@@ -134,7 +134,7 @@ store_asks e p w number off word named asked high low is small =
 
 pub retag_clear : (o : Object) (off size : ℕ) (kind : RetagKind) (guard : Guard) (prov : Option Prov) (s : Stamp) → trap_of (answer o (request.Retag off size kind guard prov) s).reply.plain ≡ None
 retag_clear o off size kind guard prov s = by o.made where
-  by : (made : Option Objects.Made) → trap_of (retag_answer o made (request.Retag off size kind guard prov) s.0).reply.plain ≡ None
+  by : (made : Option Objects.Made) → trap_of (retag_answer o made (reborrow off size kind guard prov) s.0).reply.plain ≡ None
   by None = refl
   by (Some m) = refl
 

@@ -5,7 +5,7 @@ ghost use Rattle.std.specs.Str.{bytes_eq};
 ghost use Rattle.small_run.specs.Registers.{bound};
 ghost use Rattle.source_sem.specs.Env.{value_in, with_value};
 
-use bsan_ids::{Name, NoMemory};
+use bsan_ids::{Copied, Name, NoMemory};
 use history::Arg;
 use std::alloc::Global;
 use std::marker::Model;

@@ -19,7 +19,7 @@ use Rattle.history.specs.declared.trap.Trap.{Trap}
 use Rattle.history.specs.declared.trap.Trap.TheVariants as trap
 use Rattle.history.specs.Fragments.{Shadow, loaded_as}
 use Rattle.history.specs.Memory.{Memory, in_range, put, word_at, next_memory, trap_in, is_outside}
-use Rattle.history.specs.Objects.{Object, Made, clean, prov_of, plain_reply, carried_by, judged, through, step_of, data_unless, data_answer, is_clean, retag_judged, retag_answer, end_answer, answer}
+use Rattle.history.specs.Objects.{Object, Made, clean, prov_of, plain_reply, carried_by, judged, through, step_of, data_unless, data_answer, is_clean, retag_judged, retag_answer, end_answer, answer, Reborrow, reborrow}
 use Rattle.history.specs.Pieces.{Byte}
 use Rattle.ir_ast.specs.Tokens.{Each}
 use Rattle.ir_ast.specs.Words.{width_bytes, ty_bytes, word_of, bytes_of, bits, word_bits}
@@ -196,7 +196,7 @@ data_left : (a : ℕ) (o : Object) (made : Option Made) (r : Request) → Left a
 data_left a o None r left all piece = left
 data_left a o (Some m) r left all piece = unless_left a o m r (trap_in m.memory r) left all piece
 
-retag_left : (a : ℕ) (o : Object) (made : Option Made) (r : Request) (stamp : ℕ) → Left a o → BytesFit made → Left a (retag_answer o made r stamp).object
+retag_left : (a : ℕ) (o : Object) (made : Option Made) (r : Reborrow) (stamp : ℕ) → Left a o → BytesFit made → Left a (retag_answer o made r stamp).object
 retag_left a o None r stamp left all = left
 retag_left a o (Some m) r stamp left all = (left.0, all)
 
@@ -206,7 +206,7 @@ end_left a o (Some m) tag left all = (left.0, all)
 
 answer_left : (a : ℕ) (o : Object) (r : Request) (stamp : ℕ) → Left a o → PieceFits r → Left a (answer o r (record { 0 = stamp })).object
 answer_left a o (request.Make size place) stamp left piece = (left.0, bytes_zero size)
-answer_left a o (request.Retag at len kind guard prov) stamp left piece = retag_left a o o.made (request.Retag at len kind guard prov) stamp left left.1
+answer_left a o (request.Retag at len kind guard prov) stamp left piece = retag_left a o o.made (reborrow at len kind guard prov) stamp left left.1
 answer_left a o (request.EndProtector tag) stamp left piece = end_left a o o.made tag left left.1
 answer_left a o (request.Load at ty prov) stamp left piece = data_left a o o.made (request.Load at ty prov) left left.1 piece
 answer_left a o (request.Store at ty value carried prov) stamp left piece = data_left a o o.made (request.Store at ty value carried prov) left left.1 piece
@@ -242,10 +242,10 @@ abbrev Suits : Option Ty → Entry → Request → Reply → Type 0
 Suits ty e r q = ReplyFits ty (record e { reply = q }) r × PlainFits q.plain
 
 module _ (ty : Option Ty) (e : Entry) (a : AllocNo) (named : e.alloc ≡ Some a) (o : Object) (fits : ObjectFits a.0 o) where
-  retag_replies : (at len : ℕ) (kind : RetagKind) (guard : Guard) (prov : Option Prov) (made : Option Made) → Suits ty e (request.Retag at len kind guard prov) (retag_answer o made (request.Retag at len kind guard prov) e.stamp.0).reply
+  retag_replies : (at len : ℕ) (kind : RetagKind) (guard : Guard) (prov : Option Prov) (made : Option Made) → Suits ty e (request.Retag at len kind guard prov) (retag_answer o made (reborrow at len kind guard prov) e.stamp.0).reply
   retag_replies at len kind guard prov None = (tt, tt)
   retag_replies at len kind guard prov (Some m) =
-      by_clean (retag_judged o.number m (request.Retag at len kind guard prov) e.stamp.0).verdict (is_clean (retag_judged o.number m (request.Retag at len kind guard prov) e.stamp.0).verdict)
+      by_clean (retag_judged o.number m (reborrow at len kind guard prov) e.stamp.0).verdict (is_clean (retag_judged o.number m (reborrow at len kind guard prov) e.stamp.0).verdict)
     where
       by_clean : (v : Verdict) (b : Bool) → Suits ty e (request.Retag at len kind guard prov) (record { plain = plain.Retagged b; carried = if b then Some (prov_of o.number e.stamp.0) else through (request.Retag at len kind guard prov); verdict = v })
       by_clean v true = ((a, named, ap (λ n. Some (prov_of n e.stamp.0)) fits.number), tt)

@@ -18,7 +18,7 @@ use Rattle.history.specs.declared.entry.Request.TheVariants as request
 use Rattle.history.specs.declared.trap.Trap.{Trap}
 use Rattle.history.specs.Histories.{fits, Replies, is_make}
 use Rattle.history.specs.Memory.{trap_in}
-use Rattle.history.specs.Objects.{Object, Made, data_answer, data_unless, retag_answer, end_answer, answer}
+use Rattle.history.specs.Objects.{Object, Made, data_answer, data_unless, retag_answer, end_answer, answer, Reborrow, reborrow}
 use Rattle.history.specs.declared.log.ThreadLog.{ThreadLog}
 use Rattle.runs.specs.Interleaving.{Legal, MakesUnmade}
 use Rattle.runs.specs.Machine.{TurnsWithin}
@@ -105,7 +105,7 @@ data_made : (o : Object) (m : Option Made) (r : Request) → IsMade o → IsMade
 data_made o None r h = h
 data_made o (Some m) r h = unless_made o m r (trap_in m.memory r) h
 
-retag_made : (o : Object) (m : Option Made) (r : Request) (stamp : ℕ) → IsMade o → IsMade (retag_answer o m r stamp).object
+retag_made : (o : Object) (m : Option Made) (r : Reborrow) (stamp : ℕ) → IsMade o → IsMade (retag_answer o m r stamp).object
 retag_made o None r stamp h = h
 retag_made o (Some m) r stamp h = refl
 
@@ -115,7 +115,7 @@ end_made o (Some m) tag h = refl
 
 stays_made : (o : Object) (r : Request) (stamp : ℕ) → IsMade o → IsMade (answer o r (record { 0 = stamp })).object
 stays_made o (request.Make size place) stamp h = refl
-stays_made o (request.Retag at len kind guard prov) stamp h = retag_made o o.made (request.Retag at len kind guard prov) stamp h
+stays_made o (request.Retag at len kind guard prov) stamp h = retag_made o o.made (reborrow at len kind guard prov) stamp h
 stays_made o (request.EndProtector tag) stamp h = end_made o o.made tag h
 stays_made o (request.Load at ty prov) stamp h = data_made o o.made (request.Load at ty prov) h
 stays_made o (request.Store at ty value carried prov) stamp h = data_made o o.made (request.Store at ty value carried prov) h

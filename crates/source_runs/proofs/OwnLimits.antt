@@ -13,7 +13,7 @@ use Rattle.history.specs.declared.entry.Request.TheVariants as request
 use Rattle.history.specs.declared.trap.Trap.{Trap}
 use Rattle.history.specs.declared.trap.Trap.TheVariants as trap
 use Rattle.history.specs.Memory.{Memory as Bytes, trap_in, is_bad_free}
-use Rattle.history.specs.Objects.{Object, Made, data_answer, data_unless, plain_reply, retag_answer, end_answer, answer}
+use Rattle.history.specs.Objects.{Object, Made, data_answer, data_unless, plain_reply, retag_answer, end_answer, answer, Reborrow, reborrow}
 use Rattle.history.specs.declared.log.End.{End}
 use Rattle.history.specs.declared.log.End.TheVariants as log_end
 use Rattle.history.specs.declared.log.ThreadLog.{ThreadLog}
@@ -63,7 +63,7 @@ data_own : (o : Object) (m : Option Made) (r : Request) → PlainIsOwn (data_ans
 data_own o None r = tt
 data_own o (Some m) r = unless_own o m r (trap_in m.memory r) (trap_own m.memory r)
 
-retag_own : (o : Object) (m : Option Made) (r : Request) (stamp : ℕ) → PlainIsOwn (retag_answer o m r stamp).reply.plain
+retag_own : (o : Object) (m : Option Made) (r : Reborrow) (stamp : ℕ) → PlainIsOwn (retag_answer o m r stamp).reply.plain
 retag_own o None r stamp = tt
 retag_own o (Some m) r stamp = tt
 
@@ -73,7 +73,7 @@ end_own o (Some m) tag = tt
 
 answer_own : (o : Object) (r : Request) (stamp : ℕ) → PlainIsOwn (answer o r (record { 0 = stamp })).reply.plain
 answer_own o (request.Make size place) stamp = tt
-answer_own o (request.Retag at len kind guard prov) stamp = retag_own o o.made (request.Retag at len kind guard prov) stamp
+answer_own o (request.Retag at len kind guard prov) stamp = retag_own o o.made (reborrow at len kind guard prov) stamp
 answer_own o (request.EndProtector tag) stamp = end_own o o.made tag
 answer_own o (request.Load at ty prov) stamp = data_own o o.made (request.Load at ty prov)
 answer_own o (request.Store at ty value carried prov) stamp = data_own o o.made (request.Store at ty value carried prov)
