@@ -7,7 +7,7 @@ use Rattle.target_code.specs.declared.line.Line.TheVariants as line
 use Rattle.target_code.specs.declared.line.Target.{Target}
 use Rattle.target_code.specs.declared.line.TargetFunction.{TargetFunction}
 use Rattle.thread_machine.specs.Thread.{Row, Thread, empty_row, go_on, cross, block_at, first_lines, frame_at, thread_start, lines_child, thread_child}
-use Rattle.thread_machine.specs.Shown.{FitsRow, FitsFunction, FitsTarget, first_thread, setting}
+use Rattle.thread_machine.specs.Views.{FitsRow, FitsFunction, FitsTarget, first_thread, setting}
 use Rattle.thread_machine.proofs.Running.{run_rest}
 use Rattle.thread_machine.proofs.Jumping.{each_at, fits_block}
 

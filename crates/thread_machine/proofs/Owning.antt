@@ -1,14 +1,17 @@
 -- Whether a frame has nothing to give up.
-use Rattle.std.proofs.Common.{◌≡◌, ◌≢◌, ℕ, List, [], ◌∷◌, length, map, Some, None, true, false, ◌++◌, refl, sym, ap, ◌∙◌, arith}
-use Rattle.std.specs.Prelude.{reverse}
+use Rattle.std.proofs.Common.{◌≡◌, ◌≢◌, ℕ, zero, suc, ◌<◌, List, [], ◌∷◌, length, map, Some, None, true, false, ◌++◌, refl, sym, ap, ◌∙◌, arith}
+use Rattle.std.specs.Prelude.{reverse, get_or, nat_eq, if◌then◌else◌}
+use Rattle.std.specs.List.{remove}
+use Rattle.bsan_ids.specs.Lists.{without}
+use Rattle.std.proofs.lemmas.Bool.{eq-eqb}
 use Rattle.std.proofs.lemmas.List.{length-reverse, reverse-append}
 use Rattle.bsan_ids.specs.declared.numbers.Prov.{Prov}
 use Rattle.history.specs.declared.ask.Ask.TheVariants as ask
 use Rattle.history.specs.declared.entry.Request.TheVariants as request
-use Rattle.thread_parts.specs.Owned.{Made, release_by}
+use Rattle.thread_parts.specs.Owned.{Made, release_by, released_by}
 use Rattle.thread_machine.specs.declared.owned.StackAllocation.{StackAllocation}
 use Rattle.thread_machine.specs.Thread.{has_none}
-use Rattle.thread_machine.specs.Shown.{made_of}
+use Rattle.thread_machine.specs.Views.{made_of}
 
 empty_list : {A : Type 0} (l : List A) → length l ≡ 0 → l ≡ []
 empty_list [] e = refl
@@ -46,3 +49,23 @@ stack_last ss front y e = ap (λ (z : List StackAllocation). release_by [] [] (m
 
 pub stack_none : (ss : List StackAllocation) → ss ≡ [] → release_by [] [] (map made_of (reverse ss)) ≡ None
 stack_none ss e = ap (λ (z : List StackAllocation). release_by [] [] (map made_of (reverse z))) e
+
+-- the first place of a number in a list
+pub found_first : (c : ℕ) (xs : List ℕ) (i : ℕ) → i < length xs → get_or xs i 0 ≡ c → ((j : ℕ) → j < i → nat_eq c (get_or xs j 0) ≡ false) → without c xs ≡ remove xs i
+found_first c [] i lt e h = absurd (omega arith)
+found_first c (x ∷ xs) zero lt e h = ap (λ b. if b then xs else x ∷ without c xs) (eq-eqb c x (sym e))
+found_first c (x ∷ xs) (suc i) lt e h =
+    ap (λ b. if b then xs else x ∷ without c xs) (h 0 (omega arith)) ∙ ap (λ z. x ∷ z) (found_first c xs i (omega arith) e (λ j le. h (suc j) (omega (arith, le))))
+
+pub found_none : (c : ℕ) (xs : List ℕ) → ((j : ℕ) → j < length xs → nat_eq c (get_or xs j 0) ≡ false) → without c xs ≡ xs
+found_none c [] h = refl
+found_none c (x ∷ xs) h =
+    ap (λ b. if b then xs else x ∷ without c xs) (h 0 (omega arith)) ∙ ap (λ z. x ∷ z) (found_none c xs (λ j le. h (suc j) (omega (arith, le))))
+
+-- an allocation of the stack is the first when it is the newest
+pub stack_pushed : (ss : List StackAllocation) (s : StackAllocation) → map made_of (reverse (ss ++ s ∷ [])) ≡ made_of s ∷ map made_of (reverse ss)
+stack_pushed ss s = ap (map made_of) (turned ss s)
+
+-- what is left where the first is given up
+pub stack_popped : (front : List StackAllocation) (s : StackAllocation) → released_by [] [] (map made_of (reverse (front ++ s ∷ []))) ≡ record { children = []; protectors = []; stack = map made_of (reverse front) }
+stack_popped front s = ap (λ (z : List Made). released_by [] [] z) (stack_pushed front s)

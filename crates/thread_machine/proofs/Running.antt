@@ -8,7 +8,7 @@ use Rattle.thread_parts.specs.Parts.{worked_part, makes_step}
 use Rattle.thread_parts.specs.Owned.{release_ask}
 use Rattle.target_code.specs.declared.line.Line.{Line}
 use Rattle.target_code.specs.declared.line.Line.TheVariants as line
-use Rattle.thread_machine.specs.Shown.{FitsRow, entered}
+use Rattle.thread_machine.specs.Views.{FitsRow, entered}
 use Rattle.thread_machine.specs.Thread.{Thread, at_lines, passed, with_value, unless_step, has_none, silent, run, cross_by, cross}
 
 abbrev with_rest : List Line → Option Thread → Option Thread
@@ -47,7 +47,7 @@ run_rest input (l ∷ ls) t r =
 same_lines : (t : Thread) (r : List Line) → t.top.rest ≡ r → at_lines t r ≡ t
 same_lines t r e = ap (at_lines t) (sym e)
 
--- behind a silent line
+-- after a silent line
 pub ran_on : (input : List ℕ) (l : Line) (ls : List Line) (t u : Thread) → t.top.rest ≡ l ∷ ls → silent input l t ≡ Some u → run input t.top.rest t ≡ run input ls (at_lines u ls)
 ran_on input l ls t u e s =
     ap (λ z. run input z t) e ∙ ap (λ z. option_map_or (run input ls) z (at_lines t (l ∷ ls))) s ∙ sym (run_rest input ls u ls)
@@ -76,7 +76,7 @@ passed_shorter input l t u e s = ap (λ z. length (drop 1 z) + 1) (rest_kept inp
     one_more : (n : ℕ) → n + 1 ≡ suc n
     one_more n = omega arith
 
-fits_tail : (w : ℕ) (ls : List Line) → FitsRow w ls → FitsRow w (drop 1 ls)
+pub fits_tail : (w : ℕ) (ls : List Line) → FitsRow w ls → FitsRow w (drop 1 ls)
 fits_tail w [] f = f
 fits_tail w (l ∷ ls) f = f.1
 

@@ -6,7 +6,7 @@ use Rattle.thread_parts.specs.Owned.{nothing_owned}
 use Rattle.target_code.specs.declared.line.Target.{Target}
 use Rattle.target_code.specs.declared.line.TargetFunction.{TargetFunction}
 use Rattle.thread_machine.specs.Thread.{Row, block_at, turn_number, frame_at, first_lines}
-use Rattle.thread_machine.specs.Shown.{entry_of, slots_of, begun_frame}
+use Rattle.thread_machine.specs.Views.{entry_of, slots_of, begun_frame}
 
 -- the parts of a function, where it is there
 parts_of : (k : ℕ) (row : Row) (o : Option TargetFunction) → record (frame_at k o row) { rest = first_lines o } ≡ record { function = k; site = turn_number (block_at o 0); rest = entry_of o ++ block_at o 0; words = replicate (slots_of o) 0; shadows = replicate (slots_of o) None; handed = row; result = blank; given = blank; owned = nothing_owned }

@@ -9,7 +9,7 @@ use Rattle.ir_ast.specs.declared.operators.BinaryOp.{BinaryOp}
 use Rattle.word_ops.specs.Answers.{answer_of}
 use Rattle.thread_parts.specs.Words.{at_width, plain_arg}
 use Rattle.thread_parts.specs.Parts.{worked_part, binary_part}
-use Rattle.thread_machine.specs.Shown.{part_of}
+use Rattle.thread_machine.specs.Views.{part_of}
 
 pub cut_below : (w : Width) (n : ℕ) → at_width (Int w) n < modulus w
 cut_below W8 n = omega arith

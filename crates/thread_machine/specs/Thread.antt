@@ -1,4 +1,4 @@
--- The target thread: frames over lines, with slots, shadow slots and rows of arguments. It stands behind its silent lines.
+-- The target thread: frames over lines, with slots, shadow slots and rows of arguments. It is always past its silent lines.
 use Rattle.std.specs.Prelude.{ℕ, zero, suc, ◌+◌, ◌*◌, ◌%◌, ◌^◌, List, [], ◌∷◌, ◌++◌, Option, Some, None, Bool, true, false, not, length, map, nat_lt, slice_get, get_or, set, replicate, unwrap_or}
 use Rattle.std.specs.Option.{option_map_or}
 use Rattle.bsan_ids.specs.declared.numbers.Prov.{Prov}
@@ -139,7 +139,7 @@ abbrev pub passed : Bool → Thread → Option Thread
 passed true t = Some t
 passed false t = None
 
--- the thread behind a line that puts a local value into a slot; a trap isn't passed
+-- the thread after a line that puts a local value into a slot; a trap isn't passed
 abbrev pub with_value : Part → Thread → ℕ → Option Thread
 with_value (Gives (Some v)) t s = Some (set_word t s v.value)
 with_value other t s = None
@@ -153,7 +153,7 @@ abbrev pub has_none : Option Ask → Bool
 has_none None = true
 has_none (Some a) = false
 
--- The thread behind a line that makes no step, meets no trap and leads to the line behind it; none behind any other line.
+-- The thread after a line that makes no step, meets no trap and leads to the line after it; none after any other line.
 -- The bytes of a copy are copied with its check.
 abbrev pub silent : List ℕ → Line → Thread → Option Thread
 silent input line.PushFrame t = Some t
@@ -192,7 +192,7 @@ abbrev pub run : List ℕ → List Line → Thread → Thread
 run input [] t = at_lines t []
 run input (l ∷ ls) t = option_map_or (run input ls) (silent input l t) (at_lines t (l ∷ ls))
 
--- An instruction that is over is left where a `turn` line stands: the next one's number is taken, and its first silent lines
+-- An instruction that is over is left at a `turn` line: the next one's number is taken, and its first silent lines
 -- are done. Elsewhere a part of the instruction is done.
 abbrev pub cross_by : List ℕ → List Line → Thread → Thread
 cross_by input (line.Turn n ∷ ls) t = run input ls (record t { begun = false; top = record t.top { site = n } })
@@ -207,7 +207,7 @@ go_on input ls t = cross input (run input ls t)
 
 -- ---- what it asks
 
--- The access that a check and the line behind it make. Lines that belong to no check make none.
+-- The access that a check and the line after it make. Lines that belong to no check make none.
 abbrev pub nothing_there : Part
 nothing_there = Fails trap.Unreachable
 
@@ -295,13 +295,13 @@ abbrev pub block_at : Option TargetFunction → ℕ → List Line
 block_at None n = []
 block_at (Some f) n = lines_or_none (slice_get f.blocks n)
 
--- the lines behind the next `jump`
+-- the lines after the next `jump`
 abbrev pub past_jump : List Line → List Line
 past_jump [] = []
 past_jump (line.Jump n ∷ ls) = ls
 past_jump (l ∷ ls) = past_jump ls
 
--- a branch goes on with the lines behind it where the value isn't 0, and else with those behind the next `jump`
+-- a branch goes on with the lines after it where the value isn't 0, and else with those after the next `jump`
 abbrev pub branch_lines : ℕ → List Line → List Line
 branch_lines zero ls = past_jump ls
 branch_lines (suc n) ls = ls
@@ -313,6 +313,10 @@ jump_by x t ls = cross x.input t
 
 abbrev pub jumped : TargetSetting → Thread → Thread
 jumped x t = jump_by x t t.top.rest
+
+-- the thread after a branch: at its lines, and then in the block of their `jump`
+abbrev pub branched : TargetSetting → Thread → Operand → List Line → Thread
+branched x t v ls = jumped x (run x.input (branch_lines (word_of t.top v) ls) t)
 
 -- the number of the instruction with which these lines begin
 abbrev pub turn_number : List Line → ℕ
@@ -343,7 +347,7 @@ return_by input t (f ∷ fs) = go_on input f.rest (record t { top = record f { g
 
 abbrev pub lines_turn : TargetSetting → Thread → List Line → Thread
 lines_turn x t (line.Turn n ∷ ls) = cross x.input t
-lines_turn x t (line.Branch v ∷ ls) = jumped x (run x.input (branch_lines (word_of t.top v) ls) t)
+lines_turn x t (line.Branch v ∷ ls) = branched x t v ls
 lines_turn x t (line.Jump n ∷ ls) = jumped x t
 lines_turn x t (line.Call k ∷ ls) = call_by x t k ls
 lines_turn x t (line.Return ∷ ls) = return_by x.input t t.callers
@@ -355,9 +359,12 @@ thread_turn x t = lines_turn x (counted t) t.top.rest
 -- ---- answers
 
 -- a load of a pointer writes `loaded`
+abbrev pub loaded_by : Ty → Option Prov → Option Prov → Option Prov
+loaded_by (Int w) p old = old
+loaded_by Ptr p old = p
+
 abbrev pub with_loaded : Ty → Option Prov → Thread → Thread
-with_loaded (Int w) p t = t
-with_loaded Ptr p t = record t { loaded = p }
+with_loaded ty p t = record t { loaded = loaded_by ty p t.loaded }
 
 abbrev pub load_answer : List ℕ → Thread → List Line → Reply → Thread
 load_answer input t (line.Load s ty p ∷ ls) r = go_on input ls (with_loaded ty r.carried (set_word t s (number_in r.plain)))
@@ -396,6 +403,14 @@ popped input t ls = pop_by input (set_owned t (released t.top.owned)) ls (releas
 abbrev pub made_by : Reply → Made
 made_by r = record { number = record { 0 = number_in r.plain }; prov = r.carried }
 
+-- a child was started: it is the frame's, and the row is empty
+abbrev pub spawned : Thread → ℕ → ℕ → Thread
+spawned t s c = record (set_owned (set_word t s c) (record t.top.owned { children = t.top.owned.children ++ c ∷ [] })) { row = empty_row }
+
+-- the child of a handle was joined
+abbrev pub joined : Thread → ℕ → Reply → Thread
+joined t s r = set_given (set_owned t (record t.top.owned { children = without (word_at t.top s % 2 ^ 32) t.top.owned.children })) (record { value = number_in r.plain; prov = r.carried })
+
 abbrev pub lines_answer : List ℕ → Thread → List Line → Reply → Thread
 lines_answer input t (line.Make s h place size ∷ ls) r =
     go_on input ls (set_owned (set_shadow (set_word t s (number_in r.plain * 2 ^ 32)) h r.carried) (with_stack place (made_by r) t.top.owned))
@@ -407,11 +422,8 @@ lines_answer input t (line.RetagResult kind n ∷ ls) r = go_on input ls t
 lines_answer input t (line.CheckCopy d dh s sh v ∷ ls) r = copy_answer input t ls (word_of t.top v % 2 ^ 64) (copy_after t.copying r.plain)
 lines_answer input t (line.Print w v ∷ ls) r = go_on input ls t
 lines_answer input t (line.Host s n vs ∷ ls) r = go_on input ls (set_word t s (number_in r.plain))
-lines_answer input t (line.Spawn s k ∷ ls) r =
-    go_on input ls (record (set_owned (set_word t s (number_in r.plain)) (record t.top.owned { children = t.top.owned.children ++ number_in r.plain ∷ [] })) { row = empty_row })
-lines_answer input t (line.Join s ∷ ls) r =
-    go_on input ls
-    (set_given (set_owned t (record t.top.owned { children = without (word_at t.top s % 2 ^ 32) t.top.owned.children })) (record { value = number_in r.plain; prov = r.carried }))
+lines_answer input t (line.Spawn s k ∷ ls) r = go_on input ls (spawned t s (number_in r.plain))
+lines_answer input t (line.Join s ∷ ls) r = go_on input ls (joined t s r)
 lines_answer input t (line.PopFrame ∷ ls) r = popped input t ls
 lines_answer input t ls r = t
 

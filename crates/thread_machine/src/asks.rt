@@ -1,5 +1,5 @@
 //! What a thread asks.
-ghost use Rattle.std.specs.Prelude.{List, ◌≡◌, ◌+◌, ◌-◌, ◌*◌, ◌%◌, ◌^◌, min, [], ◌∷◌, drop, Some, None, IfOk, IfSome, IfNone};
+ghost use Rattle.std.specs.Prelude.{List, ◌≡◌, ◌+◌, ◌-◌, ◌*◌, ◌%◌, ◌^◌, min, [], ◌∷◌, drop, Some, None, IfOk, OnErr, IfSome, IfNone};
 ghost use Rattle.history.specs.declared.ask.Ask.TheVariants as asked;
 ghost use Rattle.history.specs.declared.ask.MachineEnd.TheVariants as ending;
 ghost use Rattle.ir_ast.specs.Sizes.{most_size_of};
@@ -7,9 +7,9 @@ ghost use Rattle.thread_parts.specs.Parts.{binary_part, make_part, nth_value, pa
 ghost use Rattle.thread_parts.specs.Copies.{copy_ask, piece_at};
 ghost use Rattle.thread_parts.specs.Words.{number_at};
 ghost use Rattle.thread_machine.specs.Thread.{free_part, lines_ask, operand_at, operands_at, pointer_at, read_part, version_ask, write_part};
-ghost use Rattle.thread_machine.specs.Shown.{IsPlainLine};
+ghost use Rattle.thread_machine.specs.Views.{IsAddressing, IsPlainLine};
 
-use crate::copying::CopyProgress;
+use crate::addresses::{number_of, offset_of};
 use crate::frame::Frame;
 use crate::state::ThreadState;
 use crate::words::{cut, work};
@@ -20,20 +20,6 @@ use perm_table::{Guard, RetagKind};
 use std::alloc::Global;
 use target_code::{Line, Operand};
 use word_ops::WordTrap;
-
-/// The number of the allocation in an address.
-fn number_of(address: u64) -> AllocNo
-    ensures { result ≡ number_at address }
-{
-    AllocNo((address / 0x1_0000_0000) as u32)
-}
-
-/// The offset in an address.
-fn offset_of(address: u64) -> u32
-    ensures { result ≡ address % 2 ^ 32 }
-{
-    (address % 0x1_0000_0000) as u32
-}
 
 /// The most bytes that an allocation may have in code of a version.
 fn most_size(version: u8) -> u64
@@ -76,7 +62,7 @@ impl<'p> Frame<'p> {
         }
     }
 
-    /// The line behind the one that is next.
+    /// The line after the one that is next.
     pub fn line_after(&self) -> Option<&'p Line>
         ensures next { IfSome result (λ l. drop 1 self.now.rest ≡ l.now ∷ drop 2 self.now.rest) }
         ensures none { IfNone result (drop 1 self.now.rest ≡ []) }
@@ -84,13 +70,13 @@ impl<'p> Frame<'p> {
         match self.rest.split_first() {
             Some((_, more)) => match more.first() {
                 Some(line) => Some(line),
-                None => self.behind.first(),
+                None => self.after.first(),
             },
-            None => self.behind.get(1),
+            None => self.after.get(1),
         }
     }
 
-    /// Asks for the access behind a check of a read.
+    /// Asks for the access after a check of a read.
     fn read_ask(&self, shadow: u32) -> Ask
         ensures { result ≡ part_ask (read_part self.now shadow (drop 1 self.now.rest)) }
     {
@@ -110,7 +96,7 @@ impl<'p> Frame<'p> {
         }
     }
 
-    /// Asks for the access behind a check of a free.
+    /// Asks for the access after a check of a free.
     fn free_ask(&self, shadow: u32) -> Ask
         ensures { result ≡ part_ask (free_part self.now shadow (drop 1 self.now.rest)) }
     {
@@ -130,7 +116,7 @@ impl<'p> Frame<'p> {
         }
     }
 
-    /// Asks for the access behind a check of a write. `stored` is the provenance that a stored pointer leaves.
+    /// Asks for the access after a check of a write. `stored` is the provenance that a stored pointer leaves.
     fn write_ask(&self, stored: Option<Prov>, shadow: u32) -> Ask
         ensures { result ≡ part_ask (write_part self.now stored shadow (drop 1 self.now.rest)) }
     {
@@ -195,57 +181,6 @@ impl<'p> Frame<'p> {
                 }
             }
             _ => ended(Trap::Unreachable),
-        }
-    }
-}
-
-/// The address of a piece of a copy: 32 bytes a piece behind the first, wrapped at 64 bits.
-fn piece_address(address: u64, pieces: u64) -> u64
-    ensures { result ≡ piece_at address pieces }
-{
-    address.wrapping_add(pieces.wrapping_mul(32))
-}
-
-/// How many bytes the next piece of a copy of `len` bytes has.
-fn piece_len(len: u64, pieces: u64) -> u8
-    ensures { result ≡ min 32 (len - 32 * pieces) }
-{
-    let left = len.saturating_sub(pieces.saturating_mul(32));
-    if left < 32 { left as u8 } else { 32 }
-}
-
-impl CopyProgress {
-    /// Asks for the next part of a copy: a piece is read, or one that was read is written.
-    ///
-    /// # Errors
-    ///
-    /// `NoMemory`: want of memory for the copy of a piece.
-    fn ask(&self, to: Arg, from: Arg, len: u64) -> Result<Ask, NoMemory>
-        ensures { IfOk result (λ a. a ≡ copy_ask to from len self.now) }
-    {
-        match &self.half {
-            None => {
-                let address = piece_address(from.value, self.pieces);
-                Ok(Ask::At {
-                    alloc: number_of(address),
-                    request: Request::CopyOut {
-                        at: offset_of(address),
-                        len: piece_len(len, self.pieces),
-                        prov: from.prov,
-                    },
-                })
-            }
-            Some(piece) => {
-                let address = piece_address(to.value, self.pieces);
-                Ok(Ask::At {
-                    alloc: number_of(address),
-                    request: Request::CopyIn {
-                        at: offset_of(address),
-                        piece: piece.copy()?,
-                        prov: to.prov,
-                    },
-                })
-            }
         }
     }
 }
@@ -323,7 +258,7 @@ impl<'p> ThreadState<'p> {
             Line::RetagResult { kind, size } => {
                 retag_ask(self.top.given, *kind, Guard::Free, *size)
             }
-            Line::PopFrame => self.top.owned.first().unwrap_or(Ask::Turn),
+            Line::PopFrame => self.owned.first().unwrap_or(Ask::Turn),
             Line::Print { width, value } => Ask::Print {
                 value: cut(Ty::Int(*width), self.top.operand(*value)),
             },
@@ -346,10 +281,11 @@ impl<'p> ThreadState<'p> {
     ///
     /// # Errors
     ///
-    /// `NoMemory`: want of memory for the copy of a piece that is written.
+    /// `NoMemory`: out of memory for a piece that a copy writes; comes only where an allocation is addressed.
     #[tactic(auto, using(crate::proofs::Asked::asks_at, crate::proofs::Asked::asks_nothing, crate::proofs::Asked::asks_over))]
     pub fn ask(&self, version: u8) -> Result<Ask, NoMemory>
-        ensures { IfOk result (λ a. a ≡ version_ask version self.now.thread) }
+        ensures asks { IfOk result (λ a. a ≡ version_ask version self.now.thread) }
+        ensures refused { OnErr result (IsAddressing (version_ask version self.now.thread)) }
     {
         if let Some(end) = self.over {
             return Ok(Ask::Ended(end));

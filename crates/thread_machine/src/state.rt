@@ -3,10 +3,12 @@ ghost use Rattle.std.specs.Prelude.{◌≡◌, ◌<◌, ℕ, List, Some, None, I
 ghost use Rattle.thread_parts.specs.Words.{plain_arg};
 ghost use Rattle.thread_parts.specs.Parts.{input_arg};
 ghost use Rattle.thread_machine.specs.Thread.{silent, set_word, set_shadow};
-ghost use Rattle.thread_machine.specs.Shown.{row_index, IsWordless, IsShadowless};
+ghost use Rattle.thread_machine.specs.Views.{row_index, IsWordless, IsShadowless};
 
+use crate::caller::Caller;
 use crate::copying::CopyProgress;
 use crate::frame::Frame;
+use crate::owned::Owned;
 use crate::row::ArgRow;
 use crate::words::{cast, compare, cut, work};
 use bsan_ids::Prov;
@@ -15,11 +17,12 @@ use ir_ast::Ty;
 use std::marker::Model;
 use target_code::Line;
 
-/// A thread: the newest frame, its callers with the newest last, and what all frames share.
+/// A thread: the newest frame with what it must give up, its callers with the newest last, and what all frames share.
 #[derive(Drop)]
 pub struct ThreadState<'p> {
     pub top: Frame<'p>,
-    pub callers: Vec<Frame<'p>>,
+    pub owned: Owned,
+    pub callers: Vec<Caller<'p>>,
     pub row: ArgRow,
     pub loaded: Option<Prov>,
     pub stored: Option<Prov>,
@@ -31,11 +34,11 @@ pub struct ThreadState<'p> {
 
 impl<'p> Model for ThreadState<'p> {
     ghost use Rattle.std.specs.Prelude.{reverse, ◌-◌, vec_len, vec_capacity};
-    ghost use Rattle.thread_machine.specs.Shown.{WideThread};
+    ghost use Rattle.thread_machine.specs.Views.{WideThread};
 
     ghost Value = { WideThread };
 
-    ghost view = { λ s. record { thread = record { top = s.top; callers = reverse s.callers.items; row = s.row.row; loaded = s.loaded; stored = s.stored; copying = s.copying; begun = s.begun; count = s.count; over = s.over }; width = s.row.width; caller_room = vec_capacity s.callers - vec_len s.callers } };
+    ghost view = { λ s. record { thread = record { top = record s.top { owned = s.owned.owned }; callers = reverse s.callers.items; row = s.row.row; loaded = s.loaded; stored = s.stored; copying = s.copying.progress; begun = s.begun; count = s.count; over = s.over }; width = s.row.width; room = record { callers = vec_capacity s.callers - vec_len s.callers; children = s.owned.children; protectors = s.owned.protectors; stack = s.owned.stack; piece = s.copying.has_room } } };
 }
 
 impl<'p> ThreadState<'p> {
@@ -114,7 +117,7 @@ impl<'p> ThreadState<'p> {
         }
     }
 
-    /// Does what a line says that makes no step, meets no trap and leads to the line behind it, where it writes neither
+    /// Does what a line says that makes no step, meets no trap and leads to the line after it, where it writes neither
     /// a word nor a provenance of its own. Answers whether it is such a line.
     pub(crate) fn pass_other(&mut self, line: &Line) -> bool
         requires wordless { IsWordless line.now }
@@ -164,13 +167,13 @@ impl<'p> ThreadState<'p> {
             }
             Line::CheckCopy { len, .. } => self.top.operand(*len) == 0,
             Line::RetagResult { size, .. } => *size == 0,
-            Line::PopFrame => self.top.owned.is_empty(),
+            Line::PopFrame => self.owned.is_empty(),
             _ => false,
         }
     }
 }
 
-/// A byte of the input, and 256 behind its end.
+/// A byte of the input, and 256 past its end.
 fn input_byte(input: &[u8], index: u64) -> u64
     ensures { result ≡ (input_arg input.now (plain_arg index)).value }
 {

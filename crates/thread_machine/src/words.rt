@@ -2,7 +2,7 @@
 ghost use Rattle.std.specs.Prelude.{◌≡◌, Some};
 ghost use Rattle.thread_parts.specs.Words.{at_width, plain_arg};
 ghost use Rattle.thread_parts.specs.Parts.{binary_part, cast_arg, compared};
-ghost use Rattle.thread_machine.specs.Shown.{part_of};
+ghost use Rattle.thread_machine.specs.Views.{part_of};
 
 use ir_ast::{BinaryOp, CastOp, Cond, Ty, Width};
 use word_ops::WordTrap;

@@ -1,26 +1,72 @@
--- What contracts see of the running thread beside its state: how wide its row of arguments is.
-use Rattle.std.specs.Prelude.{ℕ, ◌<◌, ◌≤◌, ◌≡◌, List, [], ◌∷◌, Option, None, Some, IfSome, Result, Ok, Err, true, false, get_or, drop, slice_get}
+-- What contracts see of a running thread: its definition's state, and for how much more there is memory.
+use Rattle.std.specs.Prelude.{ℕ, ◌+◌, ◌*◌, ◌^◌, ◌<◌, ◌≤◌, ◌≡◌, List, [], ◌∷◌, Option, None, Some, IfSome, Result, Ok, Err, Bool, true, false, get_or, drop, slice_get}
 use Rattle.ir_ast.specs.Tokens.{Each}
+use Rattle.ir_ast.specs.declared.types.Place.{Place}
+use Rattle.ir_ast.specs.declared.types.Place.TheVariants.{Stack, Heap}
+use Rattle.perm_table.specs.declared.Guard.{Guard}
+use Rattle.perm_table.specs.declared.Guard.TheVariants.{Free}
 use Rattle.target_code.specs.declared.line.Line.{Line}
 use Rattle.target_code.specs.declared.line.Line.TheVariants as line
 use Rattle.target_code.specs.declared.line.TargetFunction.{TargetFunction}
 use Rattle.target_code.specs.declared.line.Target.{Target}
 use Rattle.history.specs.declared.ask.Ask.{Ask}
 use Rattle.history.specs.declared.ask.Ask.TheVariants as ask
+use Rattle.history.specs.declared.entry.Plain.{Plain}
+use Rattle.history.specs.declared.entry.Plain.TheVariants as plain
 use Rattle.history.specs.declared.trap.Trap.TheVariants as trap
+use Rattle.history.specs.Pieces.{Byte}
 use Rattle.word_ops.specs.declared.WordTrap.{WordTrap}
 use Rattle.word_ops.specs.declared.WordTrap.TheVariants.{DivZero, ShiftTooFar}
 use Rattle.thread_parts.specs.Words.{plain_arg}
 use Rattle.thread_parts.specs.Parts.{Part, Gives, Fails, makes_step}
-use Rattle.thread_parts.specs.Owned.{Made}
-use Rattle.thread_parts.specs.Copies.{untouched}
+use Rattle.thread_parts.specs.Copies.{Progress, untouched}
+use Rattle.thread_parts.specs.Owned.{Owned, Made, nothing_owned}
 use Rattle.thread_machine.specs.declared.owned.StackAllocation.{StackAllocation}
 use Rattle.thread_machine.specs.Thread.{TargetSetting, Row, empty_row, TargetFrame, Thread, at_lines, first_lines, frame_at, turn_number}
+
+-- ---- what there is memory for
 
 -- a row, and how many arguments fit
 pub record WideRow : Type 0 where
   pub row : Row
   pub width : ℕ
+
+-- what a frame owns, and how many more of each fit
+pub record RoomyOwned : Type 0 where
+  pub owned : Owned
+  pub children : ℕ
+  pub protectors : ℕ
+  pub stack : ℕ
+
+-- how far a copy has come, and whether a piece fits
+pub record RoomyCopy : Type 0 where
+  pub progress : Progress
+  pub has_room : Bool
+
+-- how much more fits into a thread without memory: callers, what the newest frame owns, and a piece of a copy
+pub record Room : Type 0 where
+  pub callers : ℕ
+  pub children : ℕ
+  pub protectors : ℕ
+  pub stack : ℕ
+  pub piece : Bool
+
+-- a thread, how many arguments fit into its row, and its room
+pub record WideThread : Type 0 where
+  pub thread : Thread
+  pub width : ℕ
+  pub room : Room
+
+-- a machine: code and input, its thread, and whether there is memory for its next part
+pub record MachineView : Type 0 where
+  pub setting : TargetSetting
+  pub thread : Thread
+  pub prepared : Bool
+
+abbrev pub setting : Target → List ℕ → TargetSetting
+setting t input = record { target = t; input = input }
+
+-- ---- rows
 
 -- the list's items from a place on are the default
 abbrev pub BlankFrom : {A : Type 0} → ℕ → A → List A → Type 0
@@ -45,20 +91,26 @@ FitsFunction width f = FitsRow width f.entry × FitsBlocks width f.blocks
 abbrev pub FitsTarget : ℕ → Target → Type 0
 FitsTarget width t = Each (FitsFunction width) t.functions
 
+abbrev pub CallersFit : ℕ → List TargetFrame → Type 0
+CallersFit width frames = Each (λ f. FitsRow width f.rest) frames
+
+-- ---- words
+
 -- what an operation on two words does in an instruction
 abbrev pub part_of : Result ℕ WordTrap → Part
 part_of (Ok n) = Gives (Some (plain_arg n))
 part_of (Err DivZero) = Fails trap.DivZero
 part_of (Err ShiftTooFar) = Fails trap.ShiftTooFar
 
--- a thread, how many arguments fit into its row, and how many more callers fit without memory
-pub record WideThread : Type 0 where
-  pub thread : Thread
-  pub width : ℕ
-  pub caller_room : ℕ
-
 abbrev pub made_of : StackAllocation → Made
 made_of s = record { number = s.number; prov = s.prov }
+
+-- the piece that was read and not yet written
+abbrev pub half_of : Bool → Option (List Byte) → Option (List Byte)
+half_of false piece = None
+half_of true piece = piece
+
+-- ---- kinds of lines
 
 -- the line writes no word into a slot but by a binary operation or a step
 abbrev pub IsWordless : Line → Type 0
@@ -86,25 +138,6 @@ IsShadowless (line.TakeShadowArg h i) = ⊥
 IsShadowless (line.ShadowCallResult h) = ⊥
 IsShadowless other = Unit {0}
 
--- the thread behind the line that is next
-abbrev pub skipped : Thread → Thread
-skipped t = at_lines t (drop 1 t.top.rest)
-
--- the thread behind the `turn` line of an instruction
-abbrev pub entered : Thread → ℕ → Thread
-entered t n = record (skipped t) { begun = false; top = record (skipped t).top { site = n } }
-
-abbrev pub entry_of : Option TargetFunction → List Line
-entry_of None = []
-entry_of (Some f) = f.entry
-
-abbrev pub first_number : List Line → ℕ
-first_number = turn_number
-
--- a new frame, in front of its function's first line
-abbrev pub begun_frame : Target → ℕ → Row → TargetFrame
-begun_frame t k row = record (frame_at k (slice_get t.functions k) row) { rest = first_lines (slice_get t.functions k) }
-
 -- no check
 abbrev pub IsPlainLine : Line → Type 0
 IsPlainLine (line.CheckRead s h n) = ⊥
@@ -113,31 +146,60 @@ IsPlainLine (line.CheckFree s h) = ⊥
 IsPlainLine (line.CheckCopy d dh s sh v) = ⊥
 IsPlainLine other = Unit {0}
 
-abbrev pub setting : Target → List ℕ → TargetSetting
-setting t input = record { target = t; input = input }
+-- ---- a thread after small steps
 
-abbrev pub CallersFit : ℕ → List TargetFrame → Type 0
-CallersFit width frames = Each (λ f. FitsRow width f.rest) frames
+-- the thread after the line that is next
+abbrev pub skipped : Thread → Thread
+skipped t = at_lines t (drop 1 t.top.rest)
 
--- a new thread, in front of its function's first line
-abbrev pub first_thread : Target → ℕ → Row → Thread
-first_thread t k row = record { top = begun_frame t k row; callers = []; row = empty_row; loaded = None; stored = None; copying = untouched; begun = true; count = 0; over = None }
+-- the thread after the `turn` line of an instruction
+abbrev pub entered : Thread → ℕ → Thread
+entered t n = record (skipped t) { begun = false; top = record (skipped t).top { site = n } }
 
--- a running thread, with its code and its input
-pub record Running : Type 0 where
-  pub target : Target
-  pub input : List ℕ
-  pub thread : Thread
-
--- the thread in a new frame, which is handed the row
-abbrev pub called : Thread → TargetFrame → Thread
-called t f = record t { top = record f { handed = t.row }; callers = record t.top { rest = drop 1 t.top.rest } ∷ t.callers; row = empty_row; begun = true }
+abbrev pub entry_of : Option TargetFunction → List Line
+entry_of None = []
+entry_of (Some f) = f.entry
 
 abbrev pub slots_of : Option TargetFunction → ℕ
 slots_of None = 0
 slots_of (Some f) = f.slots
 
+-- a new frame, in front of its function's first line
+abbrev pub begun_frame : Target → ℕ → Row → TargetFrame
+begun_frame t k row = record (frame_at k (slice_get t.functions k) row) { rest = first_lines (slice_get t.functions k) }
+
+-- a new thread, in front of its function's first line
+abbrev pub first_thread : Target → ℕ → Row → Thread
+first_thread t k row = record { top = begun_frame t k row; callers = []; row = empty_row; loaded = None; stored = None; copying = untouched; begun = true; count = 0; over = None }
+
+-- the thread in a new frame, which is handed the row
+abbrev pub called : Thread → TargetFrame → Thread
+called t f = record t { top = record f { handed = t.row; owned = nothing_owned }; callers = record t.top { rest = drop 1 t.top.rest } ∷ t.callers; row = empty_row; begun = true }
+
+-- ---- asks
+
 -- a thread is to be started
 abbrev pub IsSpawn : Ask → Type 0
 IsSpawn (ask.Spawn k) = Unit {0}
 IsSpawn other = ⊥
+
+-- an allocation is to be addressed
+abbrev pub IsAddressing : Ask → Type 0
+IsAddressing (ask.At a r) = Unit {0}
+IsAddressing other = ⊥
+
+-- ---- replies
+
+abbrev pub IsMade : Plain → Type 0
+IsMade (plain.Made a) = Unit {0}
+IsMade other = ⊥
+
+abbrev pub IsSpawned : Plain → Type 0
+IsSpawned (plain.Spawned c) = Unit {0}
+IsSpawned other = ⊥
+
+-- a reply has the number of an allocation or of a thread where the first of these lines wants one
+abbrev pub HasNumber : List Line → Plain → Type 0
+HasNumber (line.Make s h place size ∷ ls) p = IsMade p
+HasNumber (line.Spawn s k ∷ ls) p = IsSpawned p
+HasNumber other p = Unit {0}
