@@ -1,7 +1,7 @@
 //! Values that are copied with memory of their own.
 ghost use Rattle.std.specs.Prelude.{◌≡◌, IfOk, vec_len, vec_capacity};
 
-use crate::numbers::NoMemory;
+use crate::numbers::{NoMemory, Prov};
 
 /// A value whose contents may be refused a copy.
 pub trait Copied: Sized {
@@ -17,6 +17,13 @@ pub trait Copied: Sized {
 /// It takes no memory.
 impl Copied for u8 {
     fn copy(&self) -> Result<u8, NoMemory> {
+        Ok(*self)
+    }
+}
+
+/// It takes no memory.
+impl Copied for Prov {
+    fn copy(&self) -> Result<Prov, NoMemory> {
         Ok(*self)
     }
 }

@@ -5,7 +5,8 @@ use Rattle.perm_table.specs.declared.Kind.{Kind}
 use Rattle.eager_tree.specs.declared.node.Node.{Node}
 use Rattle.eager_tree.specs.declared.sweep.Sweep.{Sweep}
 use Rattle.eager_tree.specs.declared.sweep.Sweep.TheVariants.{Access, EndProtector}
-use Rattle.eager_tree.specs.Tree.{Links}
+use Rattle.eager_tree.specs.Tree.{Links, links}
+use Rattle.eager_tree.specs.Visit.{next_nodes}
 use Rattle.eager_tree.specs.Steps.{on_span, implicit_kinds, is_no_descendant}
 
 abbrev pub kinds_of : Sweep → List Node → Tag → ℕ → Option Kind
@@ -15,3 +16,7 @@ kinds_of EndProtector nodes x = implicit_kinds nodes x
 abbrev pub reaches_of : Sweep → Links → Tag → Tag → Bool
 reaches_of (Access span kind) ls x = λ _. true
 reaches_of EndProtector ls x = is_no_descendant ls x
+
+-- what a visit through the node x leaves of the nodes, where it is not denied
+abbrev pub visited : Sweep → Tag → List Node → List Node
+visited sweep x nodes = next_nodes (kinds_of sweep nodes x) (reaches_of sweep (links nodes) x) (links nodes) x nodes

@@ -3,7 +3,7 @@ ghost use Rattle.std.specs.Prelude.{◌≡◌, ◌<◌, ◌==◌, length, ◌↔
 ghost use Rattle.eager_tree.specs.Tree.{links, has_tag, parent_in, is_on_path};
 ghost use Rattle.eager_tree.specs.Visit.{first_in, first_below, denial, next_nodes, first_denial, denial_by, only_at};
 ghost use Rattle.eager_tree.specs.Steps.{implicit_kind, cell_at, is_within, new_cells, freed_guard, strong_at};
-ghost use Rattle.eager_tree.specs.Sweeps.{kinds_of, reaches_of};
+ghost use Rattle.eager_tree.specs.Sweeps.{kinds_of, reaches_of, visited};
 
 use crate::node::{Cell, Node};
 use crate::violation::Violation;
@@ -222,7 +222,7 @@ impl Sweep {
     /// Does the visit.
     pub fn apply(self, nodes: &mut [Node], tag: Tag, size: u32)
         requires { All (λ n. length n.cells ≡ size) nodes.old }
-        ensures { nodes.new ≡ next_nodes (kinds_of self nodes.old tag) (reaches_of self (links nodes.old) tag) (links nodes.old) tag nodes.old }
+        ensures { nodes.new ≡ visited self tag nodes.old }
     {
         for offset in 0..size {
             if let Some(kind) = self.kind_at(nodes, tag, offset) {

@@ -1,5 +1,6 @@
 //! The tree of one allocation, and its steps.
-ghost use Rattle.std.specs.Prelude.{◌≡◌, ◌+◌, ◌≤◌, ◌<◌, ◌↔◌, All, IsTrue, IfOk, IsOk, OnOk, OnErr, length};
+ghost use Rattle.std.specs.Prelude.{◌≡◌, ◌+◌, ◌≤◌, ◌<◌, ◌↔◌, All, IsTrue, IfOk, IsOk, OnOk, OnErr, length, [], ◌∷◌, ◌++◌, vec_len, vec_capacity};
+ghost use Rattle.eager_tree.specs.Sweeps.{visited};
 ghost use Rattle.eager_tree.specs.Tree.{new_tree, is_node, with_root};
 ghost use Rattle.eager_tree.specs.Steps.{access as access_of, retag as retag_of, end_protector as end_of, free_all as free_of};
 
@@ -32,6 +33,18 @@ impl Model for EagerTree {
     ghost view = { λ t. record { tree = record { size = t.size; nodes = t.nodes.items }; spare = spare_of t.ready } };
 
     ghost invariant = { λ t. IsKept t.size t.nodes t.ready };
+}
+
+/// Does the visit through the node `parent` and appends a node, for which there is room.
+fn add_child(nodes: &mut Vec<Node>, sweep: Sweep, size: u32, parent: Tag, child: Node)
+    requires sized { All (λ n. length n.cells ≡ size) nodes.old.items }
+    requires room { vec_len nodes.old < vec_capacity nodes.old }
+    ensures items { nodes.new.items ≡ visited sweep parent nodes.old.items ++ child ∷ [] }
+    ensures len { vec_len nodes.new ≡ vec_len nodes.old + 1 }
+    ensures capacity { vec_capacity nodes.new ≡ vec_capacity nodes.old }
+{
+    sweep.apply(nodes, parent, size);
+    nodes.push_reserved(child);
 }
 
 impl EagerTree {
@@ -133,9 +146,8 @@ impl EagerTree {
         let cells = cells_of(alloc, start(kind, guard), span, self.size)?;
         // one for the child, and one so that the room which `reserve_node` made stays
         self.nodes.reserve(2)?;
-        sweep.apply(&mut self.nodes, parent, self.size);
         let child = Node::child(parent, tag, guard, cells);
-        self.nodes.push_reserved(child);
+        add_child(&mut self.nodes, sweep, self.size, parent, child);
         Ok(None)
     }
 
@@ -244,9 +256,8 @@ impl EagerTree {
             unreachable!()
         };
         fill(&mut cells, start(kind, guard), span, self.size);
-        sweep.apply(&mut self.nodes, parent, self.size);
         let child = Node::child(parent, tag, guard, cells);
-        self.nodes.push_reserved(child);
+        add_child(&mut self.nodes, sweep, self.size, parent, child);
         None
     }
 }
