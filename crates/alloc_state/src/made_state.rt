@@ -3,6 +3,7 @@ ghost use Rattle.std.specs.Prelude.{IfOk, OnOk, OnErr, ◌≡◌, ◌+◌, ◌*�
 ghost use Rattle.std.specs.Result.{result_err};
 ghost use Rattle.eager_tree.specs.Tree.{with_root};
 ghost use Rattle.eager_tree.specs.Steps.{access as access_of, retag as retag_of, free_all as free_of};
+ghost use Rattle.ir_ast.specs.Sizes.{most_size};
 ghost use Rattle.ir_ast.specs.Words.{ty_bytes, modulus};
 ghost use Rattle.history.specs.declared.entry.Request.TheVariants.{Load as LoadRequest, Store as StoreRequest, Modify as ModifyRequest, CmpXchg as CmpXchgRequest, CopyOut as CopyOutRequest, CopyIn as CopyInRequest, Retag as RetagRequest, EndProtector as EndRequest, Free as FreeRequest};
 ghost use Rattle.history.specs.Objects.{answer, judged, judged_by, node_through, retag_judged, end_judged, reborrow};
@@ -55,10 +56,10 @@ impl MadeState {
     ///
     /// # Errors
     ///
-    /// `NoMemory`: want of memory.
+    /// `NoMemory`: out of memory.
     pub fn new(alloc: Global, size: u32, place: Place, root: Tag) -> Result<MadeState, NoMemory>
         requires some { 1 ≤ size }
-        requires bound { size ≤ 1048576 }
+        requires bound { size ≤ most_size }
         ensures { IfOk result (λ state. state.made ≡ new_made size place root) }
     {
         Ok(MadeState {
@@ -81,7 +82,7 @@ impl MadeState {
     ///
     /// # Errors
     ///
-    /// `NoMemory`: want of memory. The allocation stays as it was.
+    /// `NoMemory`: out of memory. The allocation stays as it was.
     pub fn reserve_frags(&mut self, runs: u32) -> Result<(), NoMemory>
         ensures room { OnOk result (runs ≤ self.new.frag_room) }
         ensures made { self.new.made ≡ self.old.made }
@@ -95,7 +96,7 @@ impl MadeState {
     ///
     /// # Errors
     ///
-    /// `NoMemory`: want of memory. The allocation stays as it was.
+    /// `NoMemory`: out of memory. The allocation stays as it was.
     pub fn reserve_node(&mut self) -> Result<(), NoMemory>
         ensures room { OnOk result (1 ≤ self.new.node_room) }
         ensures made { self.new.made ≡ self.old.made }
@@ -161,8 +162,6 @@ impl MadeState {
         ensures bound { IfOk result (λ word. word < 2 ^ (8 * ty_bytes ty)) }
         ensures within { OnOk result (at + ty_bytes ty ≤ self.now.made.tree.size) }
     {
-        let len = ty.bytes();
-        self.memory.check(Span { start: at, len })?;
         self.memory.load(at, width_of(ty))
     }
 
@@ -178,12 +177,11 @@ impl MadeState {
         ensures closed { self.new.made.closed ≡ self.old.made.closed }
         ensures node_room { self.new.node_room ≡ self.old.node_room }
     {
+        self.memory.store(at, width_of(ty), value)?;
         let span = Span {
             start: at,
             len: ty.bytes(),
         };
-        self.memory.check(span)?;
-        self.memory.store(at, width_of(ty), value)?;
         match ty {
             Ty::Int(_) => self.shadow.clear(span),
             Ty::Ptr => self.shadow.store_ptr(at, carried),
@@ -271,8 +269,8 @@ impl MadeState {
             Ok(old) => old,
             Err(trap) => return ShortReply::trapped(trap),
         };
-        if let Err(trap) = self.write(at, ty, modify(op, width, old, value), None) {
-            return ShortReply::trapped(trap);
+        if let Err(_) = self.write(at, ty, modify(op, width, old, value), None) {
+            unreachable!()
         }
         let span = Span {
             start: at,
@@ -305,16 +303,16 @@ impl MadeState {
             Ok(old) => old,
             Err(trap) => return ShortReply::trapped(trap),
         };
+        if old == expected {
+            if let Err(_) = self.write(at, ty, value, None) {
+                unreachable!()
+            }
+        }
         let span = Span {
             start: at,
             len: ty.bytes(),
         };
         let verdict = self.touch(number, prov, span, Kind::Write);
-        if old == expected {
-            if let Err(trap) = self.write(at, ty, value, None) {
-                return ShortReply::trapped(trap);
-            }
-        }
         ShortReply {
             plain: ShortPlain::Value(old),
             carried: None,
@@ -334,7 +332,7 @@ impl MadeState {
     ///
     /// # Errors
     ///
-    /// `NoMemory`: want of memory.
+    /// `NoMemory`: out of memory.
     #[tactic(auto, using(crate::proofs::ByteCopies::untrapped))]
     pub fn piece(&self, alloc: Global, at: u32, len: u8) -> Result<Piece, NoMemory>
         requires few { len ≤ 32 }

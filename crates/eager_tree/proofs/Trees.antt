@@ -7,9 +7,11 @@ use Rattle.perm_table.specs.declared.Kind.{Kind}
 use Rattle.perm_table.specs.declared.Perm.{Perm}
 use Rattle.bsan_ids.specs.declared.numbers.Span.{Span}
 use Rattle.eager_tree.specs.declared.node.Node.{Node}
-use Rattle.eager_tree.specs.Tree.{Links, links, IsTree, AreLinked}
-use Rattle.eager_tree.specs.Visit.{next_nodes, next_by}
-use Rattle.eager_tree.specs.Steps.{freed_guard}
+use Rattle.eager_tree.specs.Tree.{Tree, Links, links, IsTree, AreLinked}
+use Rattle.eager_tree.specs.Visit.{next_nodes, next_by, visit_unless}
+use Rattle.std.specs.Option.{option_or}
+use Rattle.eager_tree.specs.declared.violation.Violation.{Violation}
+use Rattle.eager_tree.specs.Steps.{freed_guard, freed_unless}
 use Rattle.eager_tree.specs.declared.sweep.Sweep.{Sweep}
 use Rattle.eager_tree.specs.declared.node.Cell.{Cell}
 use Rattle.eager_tree.specs.Sweeps.{kinds_of, reaches_of, visited}
@@ -199,3 +201,9 @@ IsTree-retagged size (first ∷ []) root h one =
       linked = record { rising = rising-one root.0; parents = parents-one root first.parent (h.linked.parents 0 (first.tag, first.parent) refl) };
     }
 IsTree-retagged size (first ∷ second ∷ nodes) root h one = absurd (omega arith)
+
+-- a free, by one denial or the other
+pub freed_visit : (denial held : Option Violation) (nodes : List Node) (t : Tree) → visit_unless (option_or denial held) nodes t ≡ freed_unless held t (visit_unless denial nodes t)
+freed_visit (Some violation) held nodes t = refl
+freed_visit None (Some violation) nodes t = refl
+freed_visit None None nodes t = refl

@@ -1,9 +1,9 @@
 //! One visit of a tree's nodes and bytes: what it would deny, and what it leaves.
 ghost use Rattle.std.specs.Prelude.{◌≡◌, ◌<◌, ◌==◌, length, ◌↔◌, IsTrue, All, map, IfOk, None, Some};
 ghost use Rattle.eager_tree.specs.Tree.{links, has_tag, parent_in, is_on_path};
-ghost use Rattle.eager_tree.specs.Visit.{first_in, first_below, denial, next_nodes, first_denial, denial_by, only_at};
+ghost use Rattle.eager_tree.specs.Visit.{first_in, first_below, denial, next_nodes, denial_by, only_at};
 ghost use Rattle.eager_tree.specs.Steps.{implicit_kind, cell_at, is_within, new_cells, freed_guard, strong_at};
-ghost use Rattle.eager_tree.specs.Sweeps.{kinds_of, reaches_of, visited};
+ghost use Rattle.eager_tree.specs.Sweeps.{kinds_of, reaches_of, denial_in, visited};
 
 use crate::node::{Cell, Node};
 use crate::violation::Violation;
@@ -193,7 +193,7 @@ impl Sweep {
 
     /// The first denial of the visit, by offset and then by tag.
     pub fn denial(self, nodes: &[Node], tag: Tag, size: u32) -> Option<Violation>
-        ensures { result ≡ first_denial (kinds_of self nodes.now tag) (reaches_of self (links nodes.now) tag) (links nodes.now) tag size nodes.now }
+        ensures { result ≡ denial_in self tag size nodes.now }
     {
         for offset in 0..size {
             if let Some(kind) = self.kind_at(nodes, tag, offset) {

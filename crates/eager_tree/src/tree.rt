@@ -1,8 +1,10 @@
 //! The tree of one allocation, and its steps.
 ghost use Rattle.std.specs.Prelude.{◌≡◌, ◌+◌, ◌≤◌, ◌<◌, ◌↔◌, All, IsTrue, IfOk, IsOk, OnOk, OnErr, length, [], ◌∷◌, ◌++◌, vec_len, vec_capacity};
-ghost use Rattle.eager_tree.specs.Sweeps.{visited};
+ghost use Rattle.eager_tree.specs.Sweeps.{denial_in, visited};
+ghost use Rattle.eager_tree.specs.Visit.{visit_unless as done_unless};
+ghost use Rattle.std.specs.Option.{option_or};
 ghost use Rattle.eager_tree.specs.Tree.{new_tree, is_node, with_root};
-ghost use Rattle.eager_tree.specs.Steps.{access as access_of, retag as retag_of, end_protector as end_of, free_all as free_of};
+ghost use Rattle.eager_tree.specs.Steps.{access as access_of, retag as retag_of, end_protector as end_of, free_all as free_of, strong_free};
 
 use crate::node::{Cell, Node};
 use crate::sweep::{Sweep, are_older, cells_of, fill, free_guard, holds_tag, strongly_held};
@@ -104,10 +106,7 @@ impl EagerTree {
     {
         let sweep = Sweep::Access { span, kind };
         let denial = sweep.denial(&self.nodes, tag, self.size);
-        if denial.is_none() {
-            sweep.apply(&mut self.nodes, tag, self.size);
-        }
-        denial
+        self.visit_unless(denial, sweep, tag)
     }
 
     /// Reads the span through `parent` and, where that is not denied, adds a child of it. The child
@@ -184,12 +183,33 @@ impl EagerTree {
             span,
             kind: Kind::Write,
         };
-        let mut denial = sweep.denial(&self.nodes, tag, self.size);
+        let denial = self.denial_of_free(sweep, tag);
+        self.visit_unless(denial, sweep, tag)
+    }
+
+    /// What forbids a free: a denial of its write, or else a strongly guarded node's accessed byte.
+    fn denial_of_free(&self, write: Sweep, tag: Tag) -> Option<Violation>
+        ensures { result ≡ option_or (denial_in write tag self.now.tree.size self.now.tree.nodes) (strong_free self.now.tree) }
+    {
+        match write.denial(&self.nodes, tag, self.size) {
+            None => strongly_held(&self.nodes, self.size),
+            denial => denial,
+        }
+    }
+
+    /// Does the visit through a node, unless there is a denial, and answers the denial.
+    fn visit_unless(
+        &mut self,
+        denial: Option<Violation>,
+        sweep: Sweep,
+        tag: Tag,
+    ) -> Option<Violation>
+        ensures answer { (result, self.new.tree) ≡ done_unless denial (visited sweep tag self.old.tree.nodes) self.old.tree }
+        ensures spare { self.new.spare ≡ self.old.spare }
+        ensures size { self.new.tree.size ≡ self.old.tree.size }
+    {
         if denial.is_none() {
-            denial = strongly_held(&self.nodes, self.size);
-            if denial.is_none() {
-                sweep.apply(&mut self.nodes, tag, self.size);
-            }
+            sweep.apply(&mut self.nodes, tag, self.size);
         }
         denial
     }

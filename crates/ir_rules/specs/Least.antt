@@ -1,5 +1,5 @@
 -- The first fault: at the least place, and there of the rule that stands first.
-use Rattle.std.specs.Prelude.{◌≡◌, ℕ, ◌<◌, ◌≤◌, ◌⊎◌, Bool, ◌&&◌, ◌||◌, nat_lt, nat_eq, List, Option, Some, None, codes, if◌then◌else◌}
+use Rattle.std.specs.Prelude.{◌≡◌, ℕ, ◌<◌, ◌≤◌, ◌⊎◌, Bool, ◌&&◌, ◌||◌, nat_lt, nat_eq, List, Option, Some, None, Contains, codes, if◌then◌else◌}
 use Rattle.ir_rules.specs.declared.rule.Rule.{Rule}
 use Rattle.ir_rules.specs.declared.rule.Rule.TheVariants.{Unknown, Twice, TypeClash, Unassigned, BadTarget, BadCall, HandleUse, NoMain}
 use Rattle.ir_rules.specs.declared.rule.Fault.{Fault}
@@ -44,3 +44,7 @@ NotAfter x y = (x.at < y.at) ⊎ ((x.at ≡ y.at) × (rank x.rule ≤ rank y.rul
 abbrev pub IsLeast : (Fault → Type 0) → Option Fault → Type 0
 IsLeast S None = (x : Fault) → S x → ⊥
 IsLeast S (Some f) = S f × ((x : Fault) → S x → NotAfter f x)
+
+-- one of the items has the fault
+abbrev pub AnyOf : {A : Type 0} → (A → Fault → Type 0) → List A → Fault → Type 0
+AnyOf S xs x = (a : _) × Contains xs a × S a x

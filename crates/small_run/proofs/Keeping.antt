@@ -27,8 +27,7 @@ use Rattle.history.specs.Replies.{trap_of}
 use Rattle.small_run.specs.declared.steps.Halt.{Halt}
 use Rattle.small_run.specs.declared.steps.Halt.TheVariants as halt
 use Rattle.report.specs.Violation.{has_deed}
-use Rattle.runs.specs.Parts.{names, of_alloc}
-use Rattle.runs.specs.Stamps.{Has}
+use Rattle.runs.specs.Parts.{Has, names, of_alloc}
 use Rattle.runs.specs.Interleaving.{Legal, MakesUnmade}
 use Rattle.runs.specs.Objects.{objects}
 use Rattle.runs.specs.Right.{Numbered, made_by, spawned_by_reply, counting_from}

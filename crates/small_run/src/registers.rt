@@ -104,7 +104,7 @@ impl Registers {
     ///
     /// # Errors
     ///
-    /// `NoMemory`: want of memory.
+    /// `NoMemory`: out of memory.
     pub fn define(&mut self, name: &Name, arg: Arg) -> Result<(), NoMemory>
         ensures { OnOk result (self.new ≡ with_value name.now arg self.old) }
     {

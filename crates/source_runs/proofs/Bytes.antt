@@ -9,6 +9,7 @@ use Rattle.std.proofs.lemmas.Nat.{mod_below}
 use Rattle.bsan_ids.specs.declared.numbers.AllocNo.{AllocNo}
 use Rattle.bsan_ids.specs.declared.numbers.Tag.{Tag}
 use Rattle.bsan_ids.specs.declared.numbers.Prov.{Prov}
+use Rattle.history.specs.Histories.{HasBytes}
 use Rattle.history.specs.declared.entry.Entry.{Entry}
 use Rattle.history.specs.declared.entry.Plain.TheVariants as plain
 use Rattle.history.specs.declared.entry.Reply.{Reply}
@@ -32,7 +33,7 @@ use Rattle.perm_table.specs.declared.RetagKind.{RetagKind}
 use Rattle.runs.proofs.PlainMemory.{HasShadow, keeps_shadow}
 use Rattle.thread_parts.specs.Words.{prov_at}
 use Rattle.thread_parts.specs.Fits.{ReplyFits}
-use Rattle.source_runs.specs.Invariant.{AreBytes, PlainFits, PieceFits}
+use Rattle.source_runs.specs.Invariant.{AreBytes, PlainFits}
 use Rattle.source_runs.specs.Allocations.{MadeFits, ObjectFits, IsOfAllocation, IsMake, AllocationLaw}
 
 abbrev IsByte : ℕ → Type 0
@@ -157,7 +158,7 @@ trap_parts false out rest h = absurd (let z : Some trap.Freed ≡ None = h in cc
 
 -- what is left ------------------------------------------------------------------------
 
-next_bytes : (m : Memory) (r : Request) → Bytes m.bytes → PieceFits r → Bytes (next_memory m r).bytes
+next_bytes : (m : Memory) (r : Request) → Bytes m.bytes → HasBytes r → Bytes (next_memory m r).bytes
 next_bytes m (request.Store at ty value carried prov) all piece = bytes_put at (bytes_of (ty_bytes ty) value) m.bytes (bytes_written (ty_bytes ty) value) all
 next_bytes m (request.Modify at width op value prov) all piece = bytes_put at (bytes_of (width_bytes width) _) m.bytes (bytes_written (width_bytes width) _) all
 next_bytes m (request.CmpXchg at width expected value prov) all piece = by_test (word_at m at (width_bytes width) == expected)
@@ -188,11 +189,11 @@ both_fit (Some m) bytes shadow = (bytes, shadow)
 abbrev Left : ℕ → Object → Type 0
 Left a o = (o.number ≡ a) × BytesFit o.made
 
-unless_left : (a : ℕ) (o : Object) (m : Made) (r : Request) (t : Option Trap) → Left a o → Bytes m.memory.bytes → PieceFits r → Left a (data_unless o m r t).object
+unless_left : (a : ℕ) (o : Object) (m : Made) (r : Request) (t : Option Trap) → Left a o → Bytes m.memory.bytes → HasBytes r → Left a (data_unless o m r t).object
 unless_left a o m r (Some t) left all piece = left
 unless_left a o m r None left all piece = (left.0, next_bytes m.memory r all piece)
 
-data_left : (a : ℕ) (o : Object) (made : Option Made) (r : Request) → Left a o → BytesFit made → PieceFits r → Left a (data_answer o made r).object
+data_left : (a : ℕ) (o : Object) (made : Option Made) (r : Request) → Left a o → BytesFit made → HasBytes r → Left a (data_answer o made r).object
 data_left a o None r left all piece = left
 data_left a o (Some m) r left all piece = unless_left a o m r (trap_in m.memory r) left all piece
 
@@ -204,7 +205,7 @@ end_left : (a : ℕ) (o : Object) (made : Option Made) (tag : Tag) → Left a o 
 end_left a o None tag left all = left
 end_left a o (Some m) tag left all = (left.0, all)
 
-answer_left : (a : ℕ) (o : Object) (r : Request) (stamp : ℕ) → Left a o → PieceFits r → Left a (answer o r (record { 0 = stamp })).object
+answer_left : (a : ℕ) (o : Object) (r : Request) (stamp : ℕ) → Left a o → HasBytes r → Left a (answer o r (record { 0 = stamp })).object
 answer_left a o (request.Make size place) stamp left piece = (left.0, bytes_zero size)
 answer_left a o (request.Retag at len kind guard prov) stamp left piece = retag_left a o o.made (reborrow at len kind guard prov) stamp left left.1
 answer_left a o (request.EndProtector tag) stamp left piece = end_left a o o.made tag left left.1
@@ -220,7 +221,7 @@ answer_left a o (request.Host n x y) stamp left piece = data_left a o o.made (re
 answer_left a o (request.Spawn f) stamp left piece = data_left a o o.made (request.Spawn f) left left.1 piece
 answer_left a o (request.Join c) stamp left piece = data_left a o o.made (request.Join c) left left.1 piece
 
-object_next : (a : ℕ) (o : Object) (r : Request) (stamp : ℕ) → ObjectFits a o → PieceFits r → ObjectFits a (answer o r (record { 0 = stamp })).object
+object_next : (a : ℕ) (o : Object) (r : Request) (stamp : ℕ) → ObjectFits a o → HasBytes r → ObjectFits a (answer o r (record { 0 = stamp })).object
 object_next a o r stamp fits piece =
     let left = answer_left a o r stamp (fits.number, bytes_fit o.made fits.made) piece in
     record { number = left.0; made = both_fit _ left.1 (keeps_shadow o r stamp (has_shadow o.made fits.made)) }

@@ -24,9 +24,9 @@ use Rattle.runs.specs.Interleaving.{Legal, MakesUnmade}
 use Rattle.runs.specs.Machine.{TurnsWithin}
 use Rattle.runs.specs.Merge.{entries_of}
 use Rattle.runs.specs.Objects.{objects}
-use Rattle.runs.specs.Parts.{names, child_of, Answers}
-use Rattle.runs.specs.Right.{HasLog, history_of}
-use Rattle.runs.specs.Stamps.{Has, RisesFrom}
+use Rattle.runs.specs.Parts.{Has, names, child_of, Answers}
+use Rattle.runs.specs.Right.{history_of}
+use Rattle.runs.specs.Stamps.{RisesFrom}
 use Rattle.runs.specs.Threads.{Feeds, StartsAs}
 use Rattle.runs.proofs.Differing.{in_part}
 use Rattle.runs.proofs.Merges.{in_own_thread}
@@ -186,7 +186,7 @@ histories_are_legal x limits hosts kept r a above le = record {
         flipped : Has (entries_of kept.threads e.thread.0) e × (names e.alloc a ≡ true) → (names e.alloc a ≡ true) × Has (entries_of kept.threads e.thread.0) e
         flipped p = (p.1, p.0)
 
-    first : (log : ThreadLog) → HasLog kept.threads log → TopFits x (r.runs.starts log.number.0).frames
+    first : (log : ThreadLog) → Has kept.threads log → TopFits x (r.runs.starts log.number.0).frames
     first log g = elim (r.threads.spawned log g) [
       | inl zero_is ↦ subst (λ n. TopFits x (r.runs.starts n).frames) (sym zero_is) (subst (λ (s : Source). TopFits x s.frames) (sym r.runs.first) ((requests_fit x).start (main_of x.program) []))
       | inr one ↦ (

@@ -22,10 +22,9 @@ use Rattle.runs.specs.Interleaving.{World, first_world, world_after, Allowed, Re
 use Rattle.runs.specs.Machine.{TurnsWithin}
 use Rattle.runs.specs.Merge.{merged, entries_of, MayMerge}
 use Rattle.runs.specs.Objects.{objects}
-use Rattle.runs.specs.Parts.{of_thread, child_of}
-use Rattle.runs.specs.Right.{HasLog, NumbersRiseFrom, IsRight}
+use Rattle.runs.specs.Parts.{Has, of_thread, child_of}
+use Rattle.runs.specs.Right.{NumbersRiseFrom, IsRight}
 use Rattle.runs.specs.RightErasure.{LimitAsked, LimitsAreAsked}
-use Rattle.runs.specs.Stamps.{Has}
 use Rattle.runs.specs.Threads.{Feeds, StartsAs, EndsAs}
 use Rattle.runs.proofs.Merges.{in_all}
 use Rattle.runs.proofs.MergeLaws.{merged_is_merge}
@@ -123,15 +122,15 @@ module _ (x : Setting) (turns : ℕ) (starts : ℕ → Source) where
   child_own s last (y ∷ es) e c f (inr h) is = child_own ((source x).after f.0.now y) last es e c f.1 h is
 
 -- an entry of a thread's part stands in its log
-pub log_with : (logs : List ThreadLog) (t : ℕ) (e : Entry) → Has (entries_of logs t) e → (log : ThreadLog) × HasLog logs log × Has log.entries e
+pub log_with : (logs : List ThreadLog) (t : ℕ) (e : Entry) → Has (entries_of logs t) e → (log : ThreadLog) × Has logs log × Has log.entries e
 log_with [] t e h = absurd h
 log_with (l ∷ ls) t e h = by_test (l.number.0 == t) h (log_with ls t e)
   where
-    by_test : (b : Bool) → Has (if b then l.entries else entries_of ls t) e → (Has (entries_of ls t) e → (log : ThreadLog) × HasLog ls log × Has log.entries e) → (log : ThreadLog) × HasLog (l ∷ ls) log × Has log.entries e
+    by_test : (b : Bool) → Has (if b then l.entries else entries_of ls t) e → (Has (entries_of ls t) e → (log : ThreadLog) × Has ls log × Has log.entries e) → (log : ThreadLog) × Has (l ∷ ls) log × Has log.entries e
     by_test true g more = (l, inl refl, g)
     by_test false g more = let r = more g in (r.0, inr r.1, r.2)
 
-has_own : (logs : List ThreadLog) (log : ThreadLog) (k : ℕ) → NumbersRiseFrom k logs → HasLog logs log → entries_of logs log.number.0 ≡ log.entries
+has_own : (logs : List ThreadLog) (log : ThreadLog) (k : ℕ) → NumbersRiseFrom k logs → Has logs log → entries_of logs log.number.0 ≡ log.entries
 has_own [] log k r h = absurd h
 has_own (l ∷ ls) log k r (inl is) = elim (eqb_tells l.number.0 log.number.0) [
   | inl hit ↦ rw hit.0 (ap (λ (z : ThreadLog). z.entries) is)
@@ -147,7 +146,7 @@ pub limits_are_asked : (x : Setting) (A : Allowed) (limits : Limits) (kept : Run
 limits_are_asked x A limits kept may r log h =
     by_end (r.runs.runs log h).last log.«end» (r.runs.runs log h).«end» over
   where
-    replies : (l : ThreadLog) → HasLog kept.threads l → (e : Entry) → Has l.entries e → PlainIsOwn e.reply.plain
+    replies : (l : ThreadLog) → Has kept.threads l → (e : Entry) → Has l.entries e → PlainIsOwn e.reply.plain
     replies l g e in_ =
         let merge = merged_is_merge kept.threads r.threads.rise may in
         let part : of_thread l.number.0 (merged kept.threads) ≡ l.entries = merge.parts l.number.0 ∙ has_own kept.threads l 0 r.threads.rise g in

@@ -1,5 +1,5 @@
 -- The runs of a program with its input, its limits and its table of host functions, and the records that are right for them.
-use Rattle.std.specs.Prelude.{ℕ, List, Option, Some, None, slice_get}
+use Rattle.std.specs.Prelude.{ℕ, List, [], slice_get}
 use Rattle.bsan_ids.specs.declared.numbers.Limits.{Limits}
 use Rattle.ir_ast.specs.declared.hosts.HostTable.{HostTable}
 use Rattle.ir_ast.specs.declared.program.Program.{Program}
@@ -12,6 +12,11 @@ use Rattle.runs.specs.Right.{IsRight, ErasesToPlainRun}
 use Rattle.source_sem.specs.Source.{source, plain_setting}
 use Rattle.source_sem.specs.Starting.{setting_of, main_of, main_start}
 
+-- a table without host functions
+abbrev pub no_hosts : HostTable
+no_hosts = record { entries = [] }
+
+-- the numbers that a Make may take, and the words that a host may answer
 abbrev pub allowed : Limits → HostTable → Allowed
 allowed limits hosts = record { allocs = limits.allocs; host = λ n first second answer. MayAnswer (slice_get hosts.entries n) first second answer }
 
