@@ -1,4 +1,4 @@
--- Members of a list, entries of one thread, entries on one number, and what an entry answers.
+-- Members of a list, entries of one thread, and entries on one number.
 use Rattle.std.specs.Prelude.{◌≡◌, ◌⊎◌, ℕ, ◌==◌, Bool, false, List, [], ◌∷◌, Some, None}
 use Rattle.std.specs.declared.option.Option.{Option}
 use Rattle.history.specs.Restriction as restriction
@@ -8,8 +8,7 @@ use Rattle.history.specs.declared.entry.Request.TheVariants as request
 use Rattle.history.specs.declared.entry.Plain.{Plain}
 use Rattle.history.specs.declared.entry.Plain.TheVariants as plain
 use Rattle.bsan_ids.specs.declared.numbers.AllocNo.{AllocNo}
-use Rattle.history.specs.declared.ask.Ask.{Ask}
-use Rattle.history.specs.declared.ask.Ask.TheVariants as ask
+pub use Rattle.history.specs.Replies.{IsOnNumber, Answers}
 
 -- the element is one of these
 abbrev pub Has : {A : Type 0} → List A → A → Type 0
@@ -46,23 +45,3 @@ child_of e = spawned_by e.request e.reply.plain
 abbrev pub is_child : Option ℕ → ℕ → Bool
 is_child None t = false
 is_child (Some c) t = c == t
-
--- a request that an object of a number answers, once it is made or not
-abbrev pub IsOnNumber : Request → Type 0
-IsOnNumber (request.Make size place) = ⊥
-IsOnNumber (request.Print v) = ⊥
-IsOnNumber (request.Host n x y) = ⊥
-IsOnNumber (request.Spawn f) = ⊥
-IsOnNumber (request.Join c) = ⊥
-IsOnNumber _ = Unit {0}
-
--- the entry answers what is asked, on the number that the request addresses
-abbrev pub Answers : Ask → Entry → Type 0
-Answers ask.Turn e = ⊥
-Answers (ask.Ended end) e = ⊥
-Answers (ask.Make size place) e = e.request ≡ request.Make size place
-Answers (ask.At a r) e = (e.request ≡ r) × (e.alloc ≡ Some a) × IsOnNumber r
-Answers (ask.Print v) e = (e.request ≡ request.Print v) × (e.alloc ≡ None)
-Answers (ask.Host n a b) e = (e.request ≡ request.Host n a b) × (e.alloc ≡ None)
-Answers (ask.Spawn f) e = (e.request ≡ request.Spawn f) × (e.alloc ≡ None)
-Answers (ask.Join c) e = (e.request ≡ request.Join c) × (e.alloc ≡ None)
