@@ -74,7 +74,7 @@ code_fits fs hosts n f known =
     record {
       two = (entry_fits x f.params, blocks_fit x n f.blocks);
       blocks = record { some_block = subst (λ (k : ℕ). 0 < k) size known.some_block; begun = blocks_begin x n f.blocks };
-      pushes = record { entry = refl; behind = no_push x lines entry; blocks = each_map (AllFine x) NoPush (no_push x) (blocks_lines x n f.blocks) bodies };
+      pushes = record { entry = refl; rest = no_push x lines entry; blocks = each_map (AllFine x) NoPush (no_push x) (blocks_lines x n f.blocks) bodies };
       names = subst (λ (k : ℕ). Each (Each (NamesKnown (length x.registers) k (length fs))) (entry_lines x f.params ∷ blocks_lines x n f.blocks)) size named;
     }
 

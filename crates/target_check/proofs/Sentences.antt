@@ -34,7 +34,7 @@ has_blocks n f w = record { some_block = w.some_block; begun = each_map (BlockFi
 pushes_once : (n : ℕ) (f : TargetFunction) → FunctionFits n f → PushesOnce f
 pushes_once n f w = record {
   entry = w.entry.begun;
-  behind = w.entry.no_push;
+  rest = w.entry.no_push;
   blocks = each_map (BlockFits f.slots (length f.blocks) n) NoPush (λ ls b. b.no_push) f.blocks w.blocks;
 }
 
@@ -67,7 +67,7 @@ functions_fit n [] c h r k b p = tt
 functions_fit n (f ∷ fs) c h r k b p = (
   record {
     some_block = b.0.some_block;
-    entry = record { begun = p.0.entry; no_push = p.0.behind; fits = record { neighbours = two_together None f.entry c.0.0 h.0.0 r.0.0; names = k.0.0 } };
+    entry = record { begun = p.0.entry; no_push = p.0.rest; fits = record { neighbours = two_together None f.entry c.0.0 h.0.0 r.0.0; names = k.0.0 } };
     blocks = blocks_fit f.slots (length f.blocks) n f.blocks c.0.1 h.0.1 r.0.1 k.0.1 b.0.begun p.0.blocks;
   },
   functions_fit n fs c.1 h.1 r.1 k.1 b.1 p.1,

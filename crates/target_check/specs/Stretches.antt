@@ -5,10 +5,10 @@ use Rattle.target_code.specs.declared.line.Line.{Line}
 use Rattle.target_code.specs.declared.line.TargetFunction.{TargetFunction}
 use Rattle.target_code.specs.Formed.{IsChecked, IsShadowed, IsReturned, EachTwo, NamesKnown, Begins, NoPush, is_turn, is_push}
 
-pub record FitTogether (before behind : Option Line) : Type 0 where
-  pub checked : IsChecked before behind
-  pub shadowed : IsShadowed before behind
-  pub returned : IsReturned before behind
+pub record FitTogether (before after : Option Line) : Type 0 where
+  pub checked : IsChecked before after
+  pub shadowed : IsShadowed before after
+  pub returned : IsReturned before after
 
 -- a stretch in code with so many slots, blocks and functions
 pub record StretchFits (slot_count block_count function_count : ℕ) (lines : List Line) : Type 0 where

@@ -9,10 +9,10 @@ ghost use Rattle.target_check.specs.Stretches.{FitTogether};
 use crate::lines::{Check, check_made, check_of, is_pop, is_return, shadow_given, unshadowed};
 use target_code::Line;
 
-fn wanted(behind: Option<&Line>) -> Option<Check>
-    ensures { option_map check_line result ≡ option_and_then formed.check_of (option_copied behind.entry) }
+fn wanted(after: Option<&Line>) -> Option<Check>
+    ensures { option_map check_line result ≡ option_and_then formed.check_of (option_copied after.entry) }
 {
-    match behind {
+    match after {
         Some(line) => check_of(line),
         None => None,
     }
@@ -28,16 +28,16 @@ fn made(before: Option<&Line>) -> Option<Check>
 }
 
 #[tactic(auto, using(crate::proofs::Same::same_checks))]
-fn checked(before: Option<&Line>, behind: Option<&Line>) -> bool
-    ensures { IsTrue result ↔ IsChecked (option_copied before.entry) (option_copied behind.entry) }
+fn checked(before: Option<&Line>, after: Option<&Line>) -> bool
+    ensures { IsTrue result ↔ IsChecked (option_copied before.entry) (option_copied after.entry) }
 {
-    wanted(behind) == made(before)
+    wanted(after) == made(before)
 }
 
-fn given(behind: Option<&Line>) -> Option<u32>
-    ensures { result ≡ option_and_then formed.shadow_given (option_copied behind.entry) }
+fn given(after: Option<&Line>) -> Option<u32>
+    ensures { result ≡ option_and_then formed.shadow_given (option_copied after.entry) }
 {
-    match behind {
+    match after {
         Some(line) => shadow_given(line),
         None => None,
     }
@@ -52,11 +52,11 @@ fn missing(before: Option<&Line>) -> Option<u32>
     }
 }
 
-fn shadowed(before: Option<&Line>, behind: Option<&Line>) -> bool
-    ensures { IsTrue result ↔ IsShadowed (option_copied before.entry) (option_copied behind.entry) }
+fn shadowed(before: Option<&Line>, after: Option<&Line>) -> bool
+    ensures { IsTrue result ↔ IsShadowed (option_copied before.entry) (option_copied after.entry) }
 {
     match missing(before) {
-        Some(slot) => given(behind) == Some(slot),
+        Some(slot) => given(after) == Some(slot),
         None => true,
     }
 }
@@ -70,25 +70,25 @@ fn pops(before: Option<&Line>) -> bool
     }
 }
 
-fn returns(behind: Option<&Line>) -> bool
-    ensures { result ≡ option_map_or formed.is_return (option_copied behind.entry) false }
+fn returns(after: Option<&Line>) -> bool
+    ensures { result ≡ option_map_or formed.is_return (option_copied after.entry) false }
 {
-    match behind {
+    match after {
         Some(line) => is_return(line),
         None => false,
     }
 }
 
-fn returned(before: Option<&Line>, behind: Option<&Line>) -> bool
-    ensures { IsTrue result ↔ IsReturned (option_copied before.entry) (option_copied behind.entry) }
+fn returned(before: Option<&Line>, after: Option<&Line>) -> bool
+    ensures { IsTrue result ↔ IsReturned (option_copied before.entry) (option_copied after.entry) }
 {
-    returns(behind) == pops(before)
+    returns(after) == pops(before)
 }
 
-fn fit_together(before: Option<&Line>, behind: Option<&Line>) -> bool
-    ensures { IsTrue result ↔ FitTogether (option_copied before.entry) (option_copied behind.entry) }
+fn fit_together(before: Option<&Line>, after: Option<&Line>) -> bool
+    ensures { IsTrue result ↔ FitTogether (option_copied before.entry) (option_copied after.entry) }
 {
-    checked(before, behind) && shadowed(before, behind) && returned(before, behind)
+    checked(before, after) && shadowed(before, after) && returned(before, after)
 }
 
 /// Do each two neighbours fit together?

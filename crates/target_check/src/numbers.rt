@@ -2,11 +2,12 @@
 ghost use Rattle.std.specs.Prelude.{◌≡◌, ◌<◌, ◌↔◌, ◌++◌, nat_lt, IsTrue, IfSome};
 ghost use Rattle.std.specs.List.{list_all};
 ghost use Rattle.ir_ast.specs.Tokens.{Each};
-ghost use Rattle.target_check.specs.Families.{IsFlow, IsAccess, IsValue, IsCall};
+ghost use Rattle.target_code.specs.Families.{family};
+ghost use Rattle.target_code.specs.declared.family.Family.TheVariants.{Flow, Check, Access, Value, Computation, Call};
 ghost use Rattle.target_code.specs.Formed as formed;
 ghost use Rattle.target_code.specs.Formed.{operand_slots, shadow_slots, args_slots, block_named, function_named, NamesKnown};
 
-use target_code::{Line, Operand, Shadow};
+use target_code::{Family, Line, Operand, Shadow};
 
 fn operand_known(operand: Operand, count: u32) -> bool
     ensures { result ≡ list_all (λ slot. nat_lt slot count) (operand_slots operand) }
@@ -54,7 +55,7 @@ fn args_known(args: &[Operand], count: u32) -> bool
 
 #[tactic(auto, using(crate::proofs::Parts::all_joined))]
 fn flow_known(line: &Line, count: u32) -> bool
-    requires { IsFlow line.now }
+    requires { family line.now ≡ Flow }
     ensures { result ≡ list_all (λ slot. nat_lt slot count) (formed.slots line.now) }
 {
     match line {
@@ -67,18 +68,16 @@ fn flow_known(line: &Line, count: u32) -> bool
         Line::Param { slot, .. } | Line::ShadowParam { shadow: slot, .. } => *slot < count,
         Line::Branch { cond: value } | Line::Result { value } => operand_known(*value, count),
         Line::ShadowResult { from } => shadow_known(*from, count),
-        _ => true,
+        _ => unreachable!(),
     }
 }
 
 #[tactic(auto, using(crate::proofs::Parts::all_joined))]
-fn access_known(line: &Line, count: u32) -> bool
-    requires { IsAccess line.now }
+fn check_known(line: &Line, count: u32) -> bool
+    requires { family line.now ≡ Check }
     ensures { result ≡ list_all (λ slot. nat_lt slot count) (formed.slots line.now) }
 {
     match line {
-        Line::Loaded { shadow: slot } | Line::Free { ptr: slot } => *slot < count,
-        Line::Stored { from } => shadow_known(*from, count),
         Line::CheckRead {
             ptr,
             ptr_shadow,
@@ -90,6 +89,31 @@ fn access_known(line: &Line, count: u32) -> bool
             ..
         }
         | Line::CheckFree { ptr, ptr_shadow } => *ptr < count && *ptr_shadow < count,
+        Line::CheckCopy {
+            to,
+            to_shadow,
+            from,
+            from_shadow,
+            len,
+        } => {
+            *to < count
+                && *to_shadow < count
+                && *from < count
+                && *from_shadow < count
+                && operand_known(*len, count)
+        }
+        _ => unreachable!(),
+    }
+}
+
+#[tactic(auto, using(crate::proofs::Parts::all_joined))]
+fn access_known(line: &Line, count: u32) -> bool
+    requires { family line.now ≡ Access }
+    ensures { result ≡ list_all (λ slot. nat_lt slot count) (formed.slots line.now) }
+{
+    match line {
+        Line::Loaded { shadow: slot } | Line::Free { ptr: slot } => *slot < count,
+        Line::Stored { from } => shadow_known(*from, count),
         Line::Load { slot, ptr, .. } => *slot < count && *ptr < count,
         Line::Store { value, ptr, .. } => *ptr < count && operand_known(*value, count),
         Line::Modify {
@@ -108,38 +132,21 @@ fn access_known(line: &Line, count: u32) -> bool
             value,
             ..
         } => { *slot < count && *ptr < count && both_known(*expected, *value, count) }
-        Line::CheckCopy {
-            to,
-            to_shadow,
-            from,
-            from_shadow,
-            len,
-        } => {
-            *to < count
-                && *to_shadow < count
-                && *from < count
-                && *from_shadow < count
-                && operand_known(*len, count)
-        }
-        _ => true,
+        _ => unreachable!(),
     }
 }
 
 #[tactic(auto, using(crate::proofs::Parts::all_joined))]
 fn value_known(line: &Line, count: u32) -> bool
-    requires { IsValue line.now }
+    requires { family line.now ≡ Value }
     ensures { result ≡ list_all (λ slot. nat_lt slot count) (formed.slots line.now) }
 {
     match line {
         Line::Const { slot, .. } => *slot < count,
         Line::Print { value, .. } => operand_known(*value, count),
-        Line::Move { slot, from: other } | Line::PtrToInt { slot, ptr: other } => {
-            *slot < count && *other < count
-        }
+        Line::Move { slot, from } => *slot < count && *from < count,
         Line::ShadowMove { shadow, from } => *shadow < count && shadow_known(*from, count),
-        Line::Cast { slot, value, .. } | Line::Input { slot, index: value } => {
-            *slot < count && operand_known(*value, count)
-        }
+        Line::Input { slot, index } => *slot < count && operand_known(*index, count),
         Line::Make {
             slot,
             shadow: other,
@@ -157,6 +164,16 @@ fn value_known(line: &Line, count: u32) -> bool
             ptr_shadow,
             ..
         } => { *shadow < count && *ptr < count && *ptr_shadow < count }
+        _ => unreachable!(),
+    }
+}
+
+#[tactic(auto, using(crate::proofs::Parts::all_joined))]
+fn computation_known(line: &Line, count: u32) -> bool
+    requires { family line.now ≡ Computation }
+    ensures { result ≡ list_all (λ slot. nat_lt slot count) (formed.slots line.now) }
+{
+    match line {
         Line::Binary { slot, a, b, .. } | Line::Compare { slot, a, b, .. } => {
             *slot < count && both_known(*a, *b, count)
         }
@@ -170,13 +187,15 @@ fn value_known(line: &Line, count: u32) -> bool
         Line::ShadowSelect { shadow, cond, a, b } => {
             *shadow < count && operand_known(*cond, count) && shadows_known(*a, *b, count)
         }
-        _ => true,
+        Line::Cast { slot, value, .. } => *slot < count && operand_known(*value, count),
+        Line::PtrToInt { slot, ptr } => *slot < count && *ptr < count,
+        _ => unreachable!(),
     }
 }
 
 #[tactic(auto, using(crate::proofs::Parts::all_joined))]
 fn call_known(line: &Line, count: u32) -> bool
-    requires { IsCall line.now }
+    requires { family line.now ≡ Call }
     ensures { result ≡ list_all (λ slot. nat_lt slot count) (formed.slots line.now) }
 {
     match line {
@@ -190,62 +209,20 @@ fn call_known(line: &Line, count: u32) -> bool
         Line::Arg { value, .. } => operand_known(*value, count),
         Line::ShadowArg { from, .. } => shadow_known(*from, count),
         Line::Host { slot, args, .. } => *slot < count && args_known(args.as_slice(), count),
-        _ => true,
+        _ => unreachable!(),
     }
 }
 
 fn slots_known(line: &Line, count: u32) -> bool
     ensures { result ≡ list_all (λ slot. nat_lt slot count) (formed.slots line.now) }
 {
-    match line {
-        Line::Turn { .. }
-        | Line::PushFrame
-        | Line::Param { .. }
-        | Line::ShadowParam { .. }
-        | Line::Branch { .. }
-        | Line::Jump { .. }
-        | Line::Result { .. }
-        | Line::ShadowResult { .. }
-        | Line::PopFrame
-        | Line::Return
-        | Line::Unreachable => flow_known(line, count),
-        Line::CheckRead { .. }
-        | Line::Load { .. }
-        | Line::Loaded { .. }
-        | Line::Stored { .. }
-        | Line::CheckWrite { .. }
-        | Line::Store { .. }
-        | Line::Modify { .. }
-        | Line::CmpXchg { .. }
-        | Line::CheckCopy { .. }
-        | Line::Copy { .. }
-        | Line::CheckFree { .. }
-        | Line::Free { .. } => access_known(line, count),
-        Line::Const { .. }
-        | Line::Move { .. }
-        | Line::ShadowMove { .. }
-        | Line::Make { .. }
-        | Line::Gep { .. }
-        | Line::Retag { .. }
-        | Line::Binary { .. }
-        | Line::Compare { .. }
-        | Line::Select { .. }
-        | Line::ShadowSelect { .. }
-        | Line::Cast { .. }
-        | Line::PtrToInt { .. }
-        | Line::Input { .. }
-        | Line::Print { .. } => value_known(line, count),
-        Line::Arg { .. }
-        | Line::ShadowArg { .. }
-        | Line::TakeArg { .. }
-        | Line::TakeShadowArg { .. }
-        | Line::Call { .. }
-        | Line::CallResult { .. }
-        | Line::ShadowCallResult { .. }
-        | Line::RetagResult { .. }
-        | Line::Spawn { .. }
-        | Line::Join { .. }
-        | Line::Host { .. } => call_known(line, count),
+    match line.family() {
+        Family::Flow => flow_known(line, count),
+        Family::Check => check_known(line, count),
+        Family::Access => access_known(line, count),
+        Family::Value => value_known(line, count),
+        Family::Computation => computation_known(line, count),
+        Family::Call => call_known(line, count),
     }
 }
 

@@ -43,7 +43,7 @@ fn no_push(lines: &[Line]) -> bool
     true
 }
 
-fn no_push_behind(lines: &[Line]) -> bool
+fn no_push_after_first(lines: &[Line]) -> bool
     ensures { IsTrue result ↔ NoPush (drop 1 lines.now) }
 {
     match lines {
@@ -74,7 +74,7 @@ fn entry_fits(lines: &[Line], slots: u32, blocks: usize, functions: usize) -> bo
     ensures { IsTrue result ↔ EntryFits slots blocks functions lines.now }
 {
     begins_with_push(lines)
-        && no_push_behind(lines)
+        && no_push_after_first(lines)
         && stretch_fits(lines, slots, blocks, functions)
 }
 
@@ -126,11 +126,11 @@ fn is_version(version: u8) -> bool
     1 <= version && version <= 2
 }
 
-/// Is target code well formed? It is where each access stands directly behind its check and each check
+/// Is target code well formed? It is where each access is directly after its check and each check
 /// directly before an access that wants it; each pointer that a constant, `gep`, `load` or `select`
 /// gives is directly followed by its shadow; each function has a block, and each block begins with
-/// `turn`; entry lines begin with `pushframe`, which stands nowhere else; `popframe` and `return`
-/// stand only together; all slots, blocks and functions that are named exist; and its version is 1 or 2.
+/// `turn`; entry lines begin with `pushframe`, which is nowhere else; `popframe` and `return`
+/// are only together; all slots, blocks and functions that are named exist; and its version is 1 or 2.
 pub fn well_formed(target: &Target) -> bool
     ensures { IsTrue result ↔ IsWellFormed target.now }
 {

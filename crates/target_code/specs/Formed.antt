@@ -20,8 +20,8 @@ use Rattle.target_code.specs.declared.line.Target.{Target}
 abbrev pub stretches : TargetFunction → List (List Line)
 stretches f = f.entry ∷ f.blocks
 
--- Two neighbours are a line and the line directly behind it, nothing and the first line, or the last line and nothing.
--- This holds of each two neighbours, where `before` stands directly before the lines.
+-- Two neighbours are a line and the line directly after it, nothing and the first line, or the last line and nothing.
+-- This holds of each two neighbours, where `before` is directly before the lines.
 abbrev pub EachTwo : (Option Line → Option Line → Type 0) → Option Line → List Line → Type 0
 EachTwo Fits before [] = Fits before None
 EachTwo Fits before (l ∷ ls) = Fits before (Some l) × EachTwo Fits (Some l) ls
@@ -49,13 +49,13 @@ check_made (line.CheckCopy to to_shadow from from_shadow len) = Some (line.Check
 check_made (line.CheckFree ptr ptr_shadow) = Some (line.CheckFree ptr ptr_shadow)
 check_made _ = None
 
--- An access stands directly behind the check that it wants, and a check directly before an access that wants it.
+-- An access is directly after the check that it wants, and a check directly before an access that wants it.
 abbrev pub IsChecked : Option Line → Option Line → Type 0
-IsChecked before behind = option_and_then check_of behind ≡ option_and_then check_made before
+IsChecked before after = option_and_then check_of after ≡ option_and_then check_made before
 
 -- ---- shadows of pointers
 
--- the slot into which a line puts a pointer whose shadow the line behind it is to give
+-- the slot into which a line puts a pointer whose shadow the line after it is to give
 abbrev pub unshadowed : Line → Option ℕ
 unshadowed (line.Const slot Ptr value) = Some slot
 unshadowed (line.Gep slot ptr add) = Some slot
@@ -77,7 +77,7 @@ shadow_given _ = None
 
 -- A pointer that a constant, `gep`, `load` or `select` puts into a slot is directly followed by its shadow.
 abbrev pub IsShadowed : Option Line → Option Line → Type 0
-IsShadowed before behind = IfSome (option_and_then unshadowed before) (λ slot. option_and_then shadow_given behind ≡ Some slot)
+IsShadowed before after = IfSome (option_and_then unshadowed before) (λ slot. option_and_then shadow_given after ≡ Some slot)
 
 -- ---- returns
 
@@ -89,9 +89,9 @@ abbrev pub is_return : Line → Bool
 is_return line.Return = true
 is_return _ = false
 
--- A return stands directly behind `popframe`, and `popframe` directly before a return.
+-- A return is directly after `popframe`, and `popframe` directly before a return.
 abbrev pub IsReturned : Option Line → Option Line → Type 0
-IsReturned before behind = option_map_or is_return behind false ≡ option_map_or is_pop before false
+IsReturned before after = option_map_or is_return after false ≡ option_map_or is_pop before false
 
 -- ---- the heads of stretches
 
@@ -115,10 +115,10 @@ pub record HasBlocks (f : TargetFunction) : Type 0 where
 abbrev pub NoPush : List Line → Type 0
 NoPush lines = Each (λ l. is_push l ≡ false) lines
 
--- The entry lines begin with `pushframe`, which stands nowhere else.
+-- The entry lines begin with `pushframe`, which is nowhere else.
 pub record PushesOnce (f : TargetFunction) : Type 0 where
   pub entry : Begins is_push f.entry
-  pub behind : NoPush (drop 1 f.entry)
+  pub rest : NoPush (drop 1 f.entry)
   pub blocks : Each NoPush f.blocks
 
 -- ---- numbers

@@ -1,3 +1,4 @@
+pub mod Families
 pub mod Words
 pub mod Texts
 pub mod Formed

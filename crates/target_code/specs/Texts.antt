@@ -12,7 +12,7 @@ use Rattle.target_code.specs.declared.line.Line.TheVariants as line
 use Rattle.target_code.specs.declared.line.TargetFunction.{TargetFunction}
 use Rattle.target_code.specs.declared.line.Target.{Target}
 
--- a word of a line behind its first
+-- a word of a line after its first
 abbrev pub next : Word → List ℕ
 next w = codes " " ++ word_text w
 

@@ -3,11 +3,13 @@
 #![tactic(auto)]
 
 mod copies;
+mod family;
 mod line;
 mod printer;
 #[cfg(test)]
 mod tests;
 mod words;
 
+pub use family::Family;
 pub use line::{Line, Operand, Shadow, Target, TargetFunction};
 pub use printer::text;

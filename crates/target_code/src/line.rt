@@ -1,19 +1,19 @@
 //! The lines of target code.
 //!
-//! A function's registers stand in slots. The slot of a pointer has a shadow slot of the same number,
+//! A function's registers are its slots. The slot of a pointer has a shadow slot of the same number,
 //! which holds the pointer's provenance.
 use bsan_ids::{ListOf, Name};
 use ir_ast::{BinaryOp, CastOp, Cond, ModifyOp, Place, Ty, Width};
 use perm_table::{Guard, RetagKind};
 
-/// An operand: what stands in a slot, or a number.
+/// An operand: the value of a slot, or a number.
 #[derive(Clone, Copy, Debug, PartialEq, Eq)]
 pub enum Operand {
     Slot(u32),
     Number(u64),
 }
 
-/// The shadow of an operand: what stands in a shadow slot, or no provenance.
+/// The shadow of an operand: the provenance of a shadow slot, or none.
 #[derive(Clone, Copy, Debug, PartialEq, Eq)]
 pub enum Shadow {
     Slot(u32),
@@ -30,12 +30,12 @@ pub enum Line {
     },
     /// A call's frame is set up.
     PushFrame,
-    /// The argument that the frame was handed.
+    /// An argument of the call that made the frame.
     Param {
         slot: u32,
         index: u32,
     },
-    /// The shadow of the argument that the frame was handed.
+    /// The shadow of an argument of the call that made the frame.
     ShadowParam {
         shadow: u32,
         index: u32,
@@ -45,7 +45,7 @@ pub enum Line {
         ty: Ty,
         value: u64,
     },
-    /// What stands in another slot.
+    /// The value of another slot.
     Move {
         slot: u32,
         from: u32,
@@ -95,7 +95,7 @@ pub enum Line {
         value: Operand,
         ptr: u32,
     },
-    /// A retag of a pointer; its new provenance stands in `shadow`.
+    /// A retag of a pointer, whose new provenance `shadow` gets.
     Retag {
         shadow: u32,
         kind: RetagKind,
@@ -233,8 +233,8 @@ pub enum Line {
         host: u32,
         args: ListOf<Operand>,
     },
-    /// Where the value isn't 0 the lines behind this one are next, up to their `jump`; else those
-    /// behind that `jump`.
+    /// Where the value isn't 0 the lines after this one are next, up to their `jump`; else those
+    /// after that `jump`.
     Branch {
         cond: Operand,
     },
@@ -242,7 +242,7 @@ pub enum Line {
     Jump {
         block: u32,
     },
-    /// What the function gives back.
+    /// The function's result.
     Result {
         value: Operand,
     },

@@ -2,11 +2,14 @@
 ghost use Rattle.std.specs.Prelude.{◌≡◌, ◌++◌, codes, map, IfOk, OnOk};
 ghost use Rattle.std.specs.List.{flat_map};
 ghost use Rattle.std.specs.Fmt.{decimal};
+ghost use Rattle.target_code.specs.Families.{family};
+ghost use Rattle.target_code.specs.declared.family.Family.TheVariants.{Flow, Check, Access, Value, Computation, Call};
 ghost use Rattle.target_code.specs.Words.{slot_text, shadow_slot_text, word_text};
 ghost use Rattle.target_code.specs.Texts.{next, spaced, with_newline, header_text, block_text, blocks_text, function_text, functions_text, target_text};
 ghost use Rattle.target_code.specs.declared.line.Line.TheVariants as line;
 ghost use Rattle.target_code.specs.declared.words.Word.TheVariants as word;
 
+use crate::family::Family;
 use crate::line::{Line, Operand, Shadow, Target, TargetFunction};
 use crate::words::{Keyword, Word, guard_word, keyword_text, place_word};
 use bsan_ids::{ListOf, NoMemory};
@@ -118,457 +121,158 @@ fn put_host(text: &mut Vec<u8>, slot: u32, host: u32, args: &[Operand]) -> Resul
     put_text(text, "\n")
 }
 
+/// A word of a line: a keyword, or a field as a word of its kind.
+macro_rules! word {
+    ($keyword:ident) => { Word::Keyword(Keyword::$keyword) };
+    (Constant $field:ident) => { Word::Operand(Operand::Number(*$field)) };
+    ($kind:ident $field:ident) => { Word::$kind(*$field) };
+}
+
+/// A line with its end, by the words of each form in its family.
+macro_rules! put_form {
+    ($text:expr, $line:expr;
+     $($variant:ident $({ $($name:ident),* })? => $($kind:ident $(($field:ident))?),+;)*) => {
+        match $line {
+            $(Line::$variant $({ $($name),* })? => put_words($text, &[$(word!($kind $($field)?)),+]),)*
+            _ => unreachable!(),
+        }
+    };
+}
+
+/// A line of a frame, or of the way through the blocks.
+fn put_flow(text: &mut Vec<u8>, line: &Line) -> Result<(), NoMemory>
+    requires { family line.now ≡ Flow }
+    ensures { OnOk result (text.new.items ≡ text.old.items ++ with_newline line.now) }
+{
+    put_form! {
+        text, line;
+        Turn { number } => Turn, Number(number);
+        PushFrame => PushFrame;
+        Param { slot, index } => Slot(slot), Equals, Param, Number(index);
+        ShadowParam { shadow, index } => ShadowSlot(shadow), Equals, ShadowParam, Number(index);
+        Branch { cond } => Branch, Operand(cond);
+        Jump { block } => Jump, Number(block);
+        Result { value } => Result, Equals, Operand(value);
+        ShadowResult { from } => ShadowResult, Equals, Shadow(from);
+        PopFrame => PopFrame;
+        Return => Return;
+        Unreachable => Unreachable;
+    }
+}
+
+/// The check of an access.
+fn put_check(text: &mut Vec<u8>, line: &Line) -> Result<(), NoMemory>
+    requires { family line.now ≡ Check }
+    ensures { OnOk result (text.new.items ≡ text.old.items ++ with_newline line.now) }
+{
+    put_form! {
+        text, line;
+        CheckRead { ptr, ptr_shadow, bytes } =>
+            Check, Read, Slot(ptr), ShadowSlot(ptr_shadow), Number(bytes);
+        CheckWrite { ptr, ptr_shadow, bytes } =>
+            Check, Write, Slot(ptr), ShadowSlot(ptr_shadow), Number(bytes);
+        CheckCopy { to, to_shadow, from, from_shadow, len } =>
+            Check, Copy, Slot(to), ShadowSlot(to_shadow), Slot(from), ShadowSlot(from_shadow), Operand(len);
+        CheckFree { ptr, ptr_shadow } => Check, Free, Slot(ptr), ShadowSlot(ptr_shadow);
+    }
+}
+
+/// A line of a load, store, copy or free.
+fn put_access(text: &mut Vec<u8>, line: &Line) -> Result<(), NoMemory>
+    requires { family line.now ≡ Access }
+    ensures { OnOk result (text.new.items ≡ text.old.items ++ with_newline line.now) }
+{
+    put_form! {
+        text, line;
+        Load { slot, ty, ptr } => Slot(slot), Equals, Load, Type(ty), Slot(ptr);
+        Loaded { shadow } => ShadowSlot(shadow), Equals, Loaded;
+        Stored { from } => Stored, Equals, Shadow(from);
+        Store { ty, value, ptr } => Store, Type(ty), Operand(value), Slot(ptr);
+        Modify { slot, op, width, ptr, value } =>
+            Slot(slot), Equals, Rmw, Modify(op), Width(width), Slot(ptr), Operand(value);
+        CmpXchg { slot, width, ptr, expected, value } =>
+            Slot(slot), Equals, CmpXchg, Width(width), Slot(ptr), Operand(expected), Operand(value);
+        Copy { to, from, len } => MemCpy, Slot(to), Slot(from), Operand(len);
+        Free { ptr } => Free, Slot(ptr);
+    }
+}
+
+/// A line that gives a value or a provenance, or prints a value.
+fn put_value(text: &mut Vec<u8>, line: &Line) -> Result<(), NoMemory>
+    requires { family line.now ≡ Value }
+    ensures { OnOk result (text.new.items ≡ text.old.items ++ with_newline line.now) }
+{
+    put_form! {
+        text, line;
+        Const { slot, ty, value } => Slot(slot), Equals, Const, Type(ty), Constant(value);
+        Move { slot, from } => Slot(slot), Equals, Slot(from);
+        ShadowMove { shadow, from } => ShadowSlot(shadow), Equals, Shadow(from);
+        Make { slot, shadow, place, size } =>
+            Slot(slot), ShadowSlot(shadow), Equals, Make, Place(place), Operand(size);
+        Gep { slot, ptr, add } => Slot(slot), Equals, Gep, Slot(ptr), Operand(add);
+        Retag { shadow, kind, guard, ptr, ptr_shadow, size } =>
+            ShadowSlot(shadow), Equals, Retag, Kind(kind), Guard(guard), Slot(ptr),
+            ShadowSlot(ptr_shadow), Number(size);
+        Input { slot, index } => Slot(slot), Equals, Input, Operand(index);
+        Print { width, value } => Print, Width(width), Operand(value);
+    }
+}
+
+/// A line that computes a value, or chooses one.
+fn put_computation(text: &mut Vec<u8>, line: &Line) -> Result<(), NoMemory>
+    requires { family line.now ≡ Computation }
+    ensures { OnOk result (text.new.items ≡ text.old.items ++ with_newline line.now) }
+{
+    put_form! {
+        text, line;
+        Binary { slot, op, width, a, b } =>
+            Slot(slot), Equals, Binary(op), Width(width), Operand(a), Operand(b);
+        Compare { slot, cond, ty, a, b } =>
+            Slot(slot), Equals, Icmp, Cond(cond), Type(ty), Operand(a), Operand(b);
+        Select { slot, ty, cond, a, b } =>
+            Slot(slot), Equals, Select, Type(ty), Operand(cond), Operand(a), Operand(b);
+        ShadowSelect { shadow, cond, a, b } =>
+            ShadowSlot(shadow), Equals, Select, Operand(cond), Shadow(a), Shadow(b);
+        Cast { slot, op, from, value, to } =>
+            Slot(slot), Equals, Cast(op), Width(from), Operand(value), Width(to);
+        PtrToInt { slot, ptr } => Slot(slot), Equals, PtrToInt, Slot(ptr);
+    }
+}
+
+/// A line of arguments, calls, threads and their results.
+fn put_call(text: &mut Vec<u8>, line: &Line) -> Result<(), NoMemory>
+    requires { family line.now ≡ Call }
+    ensures { OnOk result (text.new.items ≡ text.old.items ++ with_newline line.now) }
+{
+    match line {
+        Line::Host { slot, host, args } => put_host(text, *slot, *host, args.as_slice()),
+        _ => put_form! {
+            text, line;
+            Arg { index, value } => Arg, Number(index), Equals, Operand(value);
+            ShadowArg { index, from } => ShadowArg, Number(index), Equals, Shadow(from);
+            TakeArg { slot, index } => Slot(slot), Equals, Arg, Number(index);
+            TakeShadowArg { shadow, index } => ShadowSlot(shadow), Equals, ShadowArg, Number(index);
+            Call { function } => Call, Number(function);
+            CallResult { slot } => Slot(slot), Equals, Result;
+            ShadowCallResult { shadow } => ShadowSlot(shadow), Equals, ShadowResult;
+            RetagResult { kind, size } => Retag, Kind(kind), Free, Result, ShadowResult, Number(size);
+            Spawn { slot, function } => Slot(slot), Equals, Spawn, Number(function);
+            Join { handle } => Join, Slot(handle);
+        },
+    }
+}
+
 /// A line, with its end.
 fn put_line(text: &mut Vec<u8>, line: &Line) -> Result<(), NoMemory>
     ensures { OnOk result (text.new.items ≡ text.old.items ++ with_newline line.now) }
 {
-    match line {
-        Line::Turn { number } => put_words(
-            text,
-            &[Word::Keyword(Keyword::Turn), Word::Number(*number)],
-        ),
-        Line::PushFrame => put_words(text, &[Word::Keyword(Keyword::PushFrame)]),
-        Line::Param { slot, index } => put_words(
-            text,
-            &[
-                Word::Slot(*slot),
-                Word::Keyword(Keyword::Equals),
-                Word::Keyword(Keyword::Param),
-                Word::Number(*index),
-            ],
-        ),
-        Line::ShadowParam { shadow, index } => put_words(
-            text,
-            &[
-                Word::ShadowSlot(*shadow),
-                Word::Keyword(Keyword::Equals),
-                Word::Keyword(Keyword::ShadowParam),
-                Word::Number(*index),
-            ],
-        ),
-        Line::Const { slot, ty, value } => put_words(
-            text,
-            &[
-                Word::Slot(*slot),
-                Word::Keyword(Keyword::Equals),
-                Word::Keyword(Keyword::Const),
-                Word::Type(*ty),
-                Word::Operand(Operand::Number(*value)),
-            ],
-        ),
-        Line::Move { slot, from } => put_words(
-            text,
-            &[
-                Word::Slot(*slot),
-                Word::Keyword(Keyword::Equals),
-                Word::Slot(*from),
-            ],
-        ),
-        Line::ShadowMove { shadow, from } => put_words(
-            text,
-            &[
-                Word::ShadowSlot(*shadow),
-                Word::Keyword(Keyword::Equals),
-                Word::Shadow(*from),
-            ],
-        ),
-        Line::Make {
-            slot,
-            shadow,
-            place,
-            size,
-        } => put_words(
-            text,
-            &[
-                Word::Slot(*slot),
-                Word::ShadowSlot(*shadow),
-                Word::Keyword(Keyword::Equals),
-                Word::Keyword(Keyword::Make),
-                Word::Place(*place),
-                Word::Operand(*size),
-            ],
-        ),
-        Line::Gep { slot, ptr, add } => put_words(
-            text,
-            &[
-                Word::Slot(*slot),
-                Word::Keyword(Keyword::Equals),
-                Word::Keyword(Keyword::Gep),
-                Word::Slot(*ptr),
-                Word::Operand(*add),
-            ],
-        ),
-        Line::CheckRead {
-            ptr,
-            ptr_shadow,
-            bytes,
-        } => put_words(
-            text,
-            &[
-                Word::Keyword(Keyword::Check),
-                Word::Keyword(Keyword::Read),
-                Word::Slot(*ptr),
-                Word::ShadowSlot(*ptr_shadow),
-                Word::Number(*bytes),
-            ],
-        ),
-        Line::Load { slot, ty, ptr } => put_words(
-            text,
-            &[
-                Word::Slot(*slot),
-                Word::Keyword(Keyword::Equals),
-                Word::Keyword(Keyword::Load),
-                Word::Type(*ty),
-                Word::Slot(*ptr),
-            ],
-        ),
-        Line::Loaded { shadow } => put_words(
-            text,
-            &[
-                Word::ShadowSlot(*shadow),
-                Word::Keyword(Keyword::Equals),
-                Word::Keyword(Keyword::Loaded),
-            ],
-        ),
-        Line::Stored { from } => put_words(
-            text,
-            &[
-                Word::Keyword(Keyword::Stored),
-                Word::Keyword(Keyword::Equals),
-                Word::Shadow(*from),
-            ],
-        ),
-        Line::CheckWrite {
-            ptr,
-            ptr_shadow,
-            bytes,
-        } => put_words(
-            text,
-            &[
-                Word::Keyword(Keyword::Check),
-                Word::Keyword(Keyword::Write),
-                Word::Slot(*ptr),
-                Word::ShadowSlot(*ptr_shadow),
-                Word::Number(*bytes),
-            ],
-        ),
-        Line::Store { ty, value, ptr } => put_words(
-            text,
-            &[
-                Word::Keyword(Keyword::Store),
-                Word::Type(*ty),
-                Word::Operand(*value),
-                Word::Slot(*ptr),
-            ],
-        ),
-        Line::Retag {
-            shadow,
-            kind,
-            guard,
-            ptr,
-            ptr_shadow,
-            size,
-        } => put_words(
-            text,
-            &[
-                Word::ShadowSlot(*shadow),
-                Word::Keyword(Keyword::Equals),
-                Word::Keyword(Keyword::Retag),
-                Word::Kind(*kind),
-                Word::Guard(*guard),
-                Word::Slot(*ptr),
-                Word::ShadowSlot(*ptr_shadow),
-                Word::Number(*size),
-            ],
-        ),
-        Line::Binary {
-            slot,
-            op,
-            width,
-            a,
-            b,
-        } => put_words(
-            text,
-            &[
-                Word::Slot(*slot),
-                Word::Keyword(Keyword::Equals),
-                Word::Binary(*op),
-                Word::Width(*width),
-                Word::Operand(*a),
-                Word::Operand(*b),
-            ],
-        ),
-        Line::Compare {
-            slot,
-            cond,
-            ty,
-            a,
-            b,
-        } => put_words(
-            text,
-            &[
-                Word::Slot(*slot),
-                Word::Keyword(Keyword::Equals),
-                Word::Keyword(Keyword::Icmp),
-                Word::Cond(*cond),
-                Word::Type(*ty),
-                Word::Operand(*a),
-                Word::Operand(*b),
-            ],
-        ),
-        Line::Select {
-            slot,
-            ty,
-            cond,
-            a,
-            b,
-        } => put_words(
-            text,
-            &[
-                Word::Slot(*slot),
-                Word::Keyword(Keyword::Equals),
-                Word::Keyword(Keyword::Select),
-                Word::Type(*ty),
-                Word::Operand(*cond),
-                Word::Operand(*a),
-                Word::Operand(*b),
-            ],
-        ),
-        Line::ShadowSelect { shadow, cond, a, b } => put_words(
-            text,
-            &[
-                Word::ShadowSlot(*shadow),
-                Word::Keyword(Keyword::Equals),
-                Word::Keyword(Keyword::Select),
-                Word::Operand(*cond),
-                Word::Shadow(*a),
-                Word::Shadow(*b),
-            ],
-        ),
-        Line::Cast {
-            slot,
-            op,
-            from,
-            value,
-            to,
-        } => put_words(
-            text,
-            &[
-                Word::Slot(*slot),
-                Word::Keyword(Keyword::Equals),
-                Word::Cast(*op),
-                Word::Width(*from),
-                Word::Operand(*value),
-                Word::Width(*to),
-            ],
-        ),
-        Line::PtrToInt { slot, ptr } => put_words(
-            text,
-            &[
-                Word::Slot(*slot),
-                Word::Keyword(Keyword::Equals),
-                Word::Keyword(Keyword::PtrToInt),
-                Word::Slot(*ptr),
-            ],
-        ),
-        Line::Input { slot, index } => put_words(
-            text,
-            &[
-                Word::Slot(*slot),
-                Word::Keyword(Keyword::Equals),
-                Word::Keyword(Keyword::Input),
-                Word::Operand(*index),
-            ],
-        ),
-        Line::Modify {
-            slot,
-            op,
-            width,
-            ptr,
-            value,
-        } => put_words(
-            text,
-            &[
-                Word::Slot(*slot),
-                Word::Keyword(Keyword::Equals),
-                Word::Keyword(Keyword::Rmw),
-                Word::Modify(*op),
-                Word::Width(*width),
-                Word::Slot(*ptr),
-                Word::Operand(*value),
-            ],
-        ),
-        Line::CmpXchg {
-            slot,
-            width,
-            ptr,
-            expected,
-            value,
-        } => put_words(
-            text,
-            &[
-                Word::Slot(*slot),
-                Word::Keyword(Keyword::Equals),
-                Word::Keyword(Keyword::CmpXchg),
-                Word::Width(*width),
-                Word::Slot(*ptr),
-                Word::Operand(*expected),
-                Word::Operand(*value),
-            ],
-        ),
-        Line::CheckCopy {
-            to,
-            to_shadow,
-            from,
-            from_shadow,
-            len,
-        } => put_words(
-            text,
-            &[
-                Word::Keyword(Keyword::Check),
-                Word::Keyword(Keyword::Copy),
-                Word::Slot(*to),
-                Word::ShadowSlot(*to_shadow),
-                Word::Slot(*from),
-                Word::ShadowSlot(*from_shadow),
-                Word::Operand(*len),
-            ],
-        ),
-        Line::Copy { to, from, len } => put_words(
-            text,
-            &[
-                Word::Keyword(Keyword::MemCpy),
-                Word::Slot(*to),
-                Word::Slot(*from),
-                Word::Operand(*len),
-            ],
-        ),
-        Line::CheckFree { ptr, ptr_shadow } => put_words(
-            text,
-            &[
-                Word::Keyword(Keyword::Check),
-                Word::Keyword(Keyword::Free),
-                Word::Slot(*ptr),
-                Word::ShadowSlot(*ptr_shadow),
-            ],
-        ),
-        Line::Free { ptr } => put_words(text, &[Word::Keyword(Keyword::Free), Word::Slot(*ptr)]),
-        Line::Print { width, value } => put_words(
-            text,
-            &[
-                Word::Keyword(Keyword::Print),
-                Word::Width(*width),
-                Word::Operand(*value),
-            ],
-        ),
-        Line::Arg { index, value } => put_words(
-            text,
-            &[
-                Word::Keyword(Keyword::Arg),
-                Word::Number(*index),
-                Word::Keyword(Keyword::Equals),
-                Word::Operand(*value),
-            ],
-        ),
-        Line::ShadowArg { index, from } => put_words(
-            text,
-            &[
-                Word::Keyword(Keyword::ShadowArg),
-                Word::Number(*index),
-                Word::Keyword(Keyword::Equals),
-                Word::Shadow(*from),
-            ],
-        ),
-        Line::TakeArg { slot, index } => put_words(
-            text,
-            &[
-                Word::Slot(*slot),
-                Word::Keyword(Keyword::Equals),
-                Word::Keyword(Keyword::Arg),
-                Word::Number(*index),
-            ],
-        ),
-        Line::TakeShadowArg { shadow, index } => put_words(
-            text,
-            &[
-                Word::ShadowSlot(*shadow),
-                Word::Keyword(Keyword::Equals),
-                Word::Keyword(Keyword::ShadowArg),
-                Word::Number(*index),
-            ],
-        ),
-        Line::Call { function } => put_words(
-            text,
-            &[Word::Keyword(Keyword::Call), Word::Number(*function)],
-        ),
-        Line::CallResult { slot } => put_words(
-            text,
-            &[
-                Word::Slot(*slot),
-                Word::Keyword(Keyword::Equals),
-                Word::Keyword(Keyword::Result),
-            ],
-        ),
-        Line::ShadowCallResult { shadow } => put_words(
-            text,
-            &[
-                Word::ShadowSlot(*shadow),
-                Word::Keyword(Keyword::Equals),
-                Word::Keyword(Keyword::ShadowResult),
-            ],
-        ),
-        Line::RetagResult { kind, size } => put_words(
-            text,
-            &[
-                Word::Keyword(Keyword::Retag),
-                Word::Kind(*kind),
-                Word::Keyword(Keyword::Free),
-                Word::Keyword(Keyword::Result),
-                Word::Keyword(Keyword::ShadowResult),
-                Word::Number(*size),
-            ],
-        ),
-        Line::Spawn { slot, function } => put_words(
-            text,
-            &[
-                Word::Slot(*slot),
-                Word::Keyword(Keyword::Equals),
-                Word::Keyword(Keyword::Spawn),
-                Word::Number(*function),
-            ],
-        ),
-        Line::Join { handle } => put_words(
-            text,
-            &[Word::Keyword(Keyword::Join), Word::Slot(*handle)],
-        ),
-        Line::Host { slot, host, args } => put_host(text, *slot, *host, args.as_slice()),
-        Line::Branch { cond } => put_words(
-            text,
-            &[Word::Keyword(Keyword::Branch), Word::Operand(*cond)],
-        ),
-        Line::Jump { block } => put_words(
-            text,
-            &[Word::Keyword(Keyword::Jump), Word::Number(*block)],
-        ),
-        Line::Result { value } => put_words(
-            text,
-            &[
-                Word::Keyword(Keyword::Result),
-                Word::Keyword(Keyword::Equals),
-                Word::Operand(*value),
-            ],
-        ),
-        Line::ShadowResult { from } => put_words(
-            text,
-            &[
-                Word::Keyword(Keyword::ShadowResult),
-                Word::Keyword(Keyword::Equals),
-                Word::Shadow(*from),
-            ],
-        ),
-        Line::PopFrame => put_words(text, &[Word::Keyword(Keyword::PopFrame)]),
-        Line::Return => put_words(text, &[Word::Keyword(Keyword::Return)]),
-        Line::Unreachable => put_words(text, &[Word::Keyword(Keyword::Unreachable)]),
+    match line.family() {
+        Family::Flow => put_flow(text, line),
+        Family::Check => put_check(text, line),
+        Family::Access => put_access(text, line),
+        Family::Value => put_value(text, line),
+        Family::Computation => put_computation(text, line),
+        Family::Call => put_call(text, line),
     }
 }
 
