@@ -11,3 +11,5 @@ pub mod Fresh
 pub mod RequestLaws
 pub mod Loopings
 pub mod TrapLaws
+pub mod Asks
+pub mod Stepping

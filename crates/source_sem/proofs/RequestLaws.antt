@@ -48,6 +48,7 @@ use Rattle.thread_parts.specs.Copies.{Progress, untouched, copy_ask_by, copy_ask
 use Rattle.ir_ast.specs.Attributes.{guard_of}
 use Rattle.thread_parts.specs.Fits.{CopiedOf, ReplyFits}
 use Rattle.source_sem.specs.Source.{Setting, Source, Frame, Doing, Ready, Entering, Copying, Waiting, Retagging, Leaving, op_part, source_start, source_begins, counted, counted_if, frames_turn, ready_turn, part_turn, term_turn, return_to, resumed, resumed_by, result_step, in_block, goto_in, has_step, to_retag, entering, frame_of, frames_answer, doing_answer, ready_answer, part_answer, term_answer, leave, joined, returned_value, entered, copy_on, copying_part, copying_answer, entering_answer, part_child, insts_child, frames_child, frames_ask, doing_ask, ready_ask, term_ask, copying_ask, copying_by, entry_ask, entering_ask, release_or, nowhere, frames_type}
+use Rattle.source_sem.proofs.Asks.{asks_numbered}
 use Rattle.source_sem.specs.Requests.{IsSized, AllSized, HalfFits, CopyGoes, CopyStands, DoingFits, TopFits, RequestLaw}
 
 -- what an instruction does ---------------------------------------------------------
@@ -430,5 +431,6 @@ requests_fit x = record {
   turn = λ s h. turns x (counted s) s.frames h;
   after = λ s e h asks fit. answers x (counted_if (source_begins s) s) s.frames s.over e (counted_fits x (source_begins s) s h) h asks fit (trap_of e.reply.plain) refl;
   asks = λ s a r h is. subst AskFits is (frames_fit x s.frames s.over h);
+  numbered = asks_numbered x;
   makes = λ s size place h is. subst AskFits is (frames_fit x s.frames s.over h);
 }

@@ -9,3 +9,5 @@ pub mod Traces
 pub mod Requests
 pub mod Looping
 pub mod Traps
+pub mod Counting
+pub mod Children

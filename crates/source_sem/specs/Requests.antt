@@ -1,4 +1,4 @@
--- Each request that a thread asks of an allocation fits, in every state that a thread can reach.
+-- Each request that a thread asks of an allocation is one that allocations answer, and fits, in every state that a thread can reach.
 use Rattle.std.specs.Prelude.{◌≡◌, ℕ, suc, ◌<◌, ◌≤◌, List, [], ◌∷◌, Option, Some, None, true, false, length}
 use Rattle.history.specs.declared.ask.Arg.{Arg}
 use Rattle.history.specs.declared.ask.Ask.TheVariants as ask
@@ -12,7 +12,7 @@ use Rattle.ir_ast.specs.declared.types.Attr.{Attr}
 use Rattle.ir_ast.specs.declared.types.Place.{Place}
 use Rattle.ir_ast.specs.declared.program.Inst.{Inst}
 use Rattle.ir_ast.specs.declared.program.Param.{Param}
-use Rattle.runs.specs.Parts.{Answers}
+use Rattle.runs.specs.Parts.{Answers, IsOnNumber}
 use Rattle.thread_parts.specs.Parts.{Part, Copies}
 use Rattle.thread_parts.specs.Copies.{Progress, copy_done}
 use Rattle.source_sem.specs.Source.{Setting, Source, Frame, Doing, Entering, Copying, Retagging, op_part, source_ask, source_turn, source_answer, source_start, source_child, source_fits}
@@ -56,4 +56,5 @@ pub record RequestLaw (x : Setting) : Type 0 where
   pub turn : (s : Source) → TopFits x s.frames → TopFits x (source_turn x s).frames
   pub after : (s : Source) (e : Entry) → TopFits x s.frames → Answers (source_ask x s) e → source_fits x s e → TopFits x (source_answer x s e.reply).frames
   pub asks : (s : Source) (a : AllocNo) (r : Request) → TopFits x s.frames → source_ask x s ≡ ask.At a r → fits r ≡ true
+  pub numbered : (s : Source) (a : AllocNo) (r : Request) → source_ask x s ≡ ask.At a r → IsOnNumber r
   pub makes : (s : Source) (size : ℕ) (place : Place) → TopFits x s.frames → source_ask x s ≡ ask.Make size place → fits (request.Make size place) ≡ true

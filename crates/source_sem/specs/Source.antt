@@ -29,7 +29,6 @@ use Rattle.ir_ast.specs.declared.program.Param.{Param}
 use Rattle.ir_ast.specs.declared.program.Program.{Program}
 use Rattle.ir_ast.specs.declared.program.TypedVal.{TypedVal}
 use Rattle.runs.specs.Machine.{Machine}
-use Rattle.runs.specs.Threads.{CountsTurns}
 use Rattle.history.specs.Replies.{trap_of}
 use Rattle.thread_parts.specs.Words.{blank, plain_arg, arg_at, cut_at, number_in}
 use Rattle.ir_ast.specs.Words.{bits}
@@ -488,7 +487,3 @@ plain_setting x = record x { tracked = false }
 -- only an instruction of which no part is done is a local turn
 abbrev pub TurnsAreFresh : Type 0
 TurnsAreFresh = (x : Setting) (s : Source) → source_ask x s ≡ ask.Turn → source_begins s ≡ true
-
--- and it is one instruction
-abbrev pub TurnsCount : Type 0
-TurnsCount = (x : Setting) → CountsTurns (source x)

@@ -1,11 +1,13 @@
 //! What source threads do. The functions do nothing: each contract is a law.
 ghost use Rattle.std.specs.Prelude.{◌≡◌, []};
+ghost use Rattle.source_sem.specs.Children.{ChildLaw};
+ghost use Rattle.source_sem.specs.Counting.{CountLaw};
 ghost use Rattle.source_sem.specs.Example.{Tried, TriedPlain};
 ghost use Rattle.source_sem.specs.Joining.{JoinLaw, JoinsAccepted};
 ghost use Rattle.source_sem.specs.Looping.{program};
 ghost use Rattle.source_sem.specs.Plain.{ThreadErases};
 ghost use Rattle.source_sem.specs.Requests.{RequestLaw};
-ghost use Rattle.source_sem.specs.Source.{Setting, source_start, TurnsAreFresh, TurnsCount};
+ghost use Rattle.source_sem.specs.Source.{Setting, source_start, TurnsAreFresh};
 ghost use Rattle.source_sem.specs.Traces.{asked, counts, three, three_given, three_asked, sibling, sibling_given, sibling_asked, half, half_given, half_asked, leaving, leaving_start, leaving_given, leaving_asked, swaps, swaps_given, swaps_asked};
 ghost use Rattle.source_sem.specs.Traps.{TrapLaw};
 
@@ -33,10 +35,16 @@ pub fn joins()
     ensures example { JoinsAccepted program }
 {}
 
-/// Each local turn begins an instruction, and counts as one.
+/// Each local turn begins an instruction, and counts as one; a reply counts an instruction where it answers its first
+/// part; and a new thread has counted none.
 pub fn turns_are_fresh()
     ensures fresh { TurnsAreFresh }
-    ensures count { TurnsCount }
+    ensures counts { (x : Setting) → CountLaw x }
+{}
+
+/// A thread has started those threads that its entries start, and no other.
+pub fn spawns_start_children()
+    ensures { (x : Setting) → ChildLaw x }
 {}
 
 /// Worked examples: what small programs ask, part after part, and how many instructions they count.
@@ -51,8 +59,8 @@ pub fn asked_by_example()
     ensures swaps { asked swaps (source_start swaps 0 []) swaps_given ≡ swaps_asked }
 {}
 
-/// In each state that a thread can reach, what it asks of an allocation is a request that fits, and
-/// it ends by the limit on numbers only where it asks for one.
+/// In each state that a thread can reach, what it asks of an allocation is a request that allocations answer, and fits;
+/// and it ends by the limit on numbers only where it asks for one.
 pub fn requests_fit()
     ensures requests { (x : Setting) → RequestLaw x }
     ensures traps { (x : Setting) → TrapLaw x }

@@ -1,5 +1,5 @@
 use Rattle.runs.proofs.Standing.{stands_once, starts_agree}
-use Rattle.source_sem.proofs.Fresh.{turns_count}
+use Rattle.source_sem.proofs.Stepping.{instructions_count}
 use Rattle.std.specs.Prelude.{◌==◌}
 use Rattle.runs.specs.Interleaving.{first_world}
 use Rattle.runs.specs.Objects.{objects}
@@ -31,6 +31,6 @@ returns-clause-replays c x limits hosts schedule last fits r =
 
 pub returns-clause-states : goal.returns-clause-states
 returns-clause-states c = record {
-  last = λ x limit starts. stands_once (source x) (turns_count x) limit starts;
-  first = λ x limits main logs r q log h. starts_agree (source x) (turns_count x) limits main logs r q log.number.0 (r.reached log h);
+  last = λ x limit starts. stands_once (source x) (λ s asks. (instructions_count x).turn s) limit starts;
+  first = λ x limits main logs r q log h. starts_agree (source x) (λ s asks. (instructions_count x).turn s) limits main logs r q log.number.0 (r.reached log h);
 }
