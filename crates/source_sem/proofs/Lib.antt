@@ -11,3 +11,8 @@ pub mod Fresh
 pub mod RequestLaws
 pub mod Loopings
 pub mod TrapLaws
+pub mod JoinNames
+pub mod Every
+pub mod Deciding
+pub mod Numbers
+pub mod Accepting

@@ -9,3 +9,4 @@ pub mod Traces
 pub mod Requests
 pub mod Looping
 pub mod Traps
+pub mod Typing
