@@ -11,14 +11,26 @@ fn starter(alloc: Global) -> Result<Target, NoMemory> {
     let entry = vec![in alloc; Line::PushFrame, Line::Param { slot: 0, index: 0 }]?;
     let block = vec![in alloc;
         Line::Turn { number: 0 },
-        Line::Const { slot: 1, ty: Ty::Int(Width::W8), value: 261 },
+        Line::Const {
+            slot: 1,
+            ty: Ty::Int(Width::W8),
+            value: 261
+        },
         Line::Turn { number: 1 },
-        Line::Arg { index: 0, value: Operand::Slot(1) },
-        Line::Spawn { slot: 2, function: 0 },
+        Line::Arg {
+            index: 0,
+            value: Operand::Slot(1)
+        },
+        Line::Spawn {
+            slot: 2,
+            function: 0
+        },
         Line::Turn { number: 2 },
-        Line::Result { value: Operand::Slot(0) },
+        Line::Result {
+            value: Operand::Slot(0)
+        },
         Line::PopFrame,
-        Line::Return
+        Line::Return,
     ]?;
     let function = TargetFunction {
         name: ListOf::from_slice(alloc, b"f")?,
