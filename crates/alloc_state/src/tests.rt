@@ -5,9 +5,9 @@ ghost use Rattle.alloc_state.specs.Log.{has_make};
 
 use super::AllocState;
 use bsan_ids::{AllocNo, Frag, NoMemory, Prov, Stamp, Tag, ThreadNo};
+use eager_tree::Violation;
 use history::{Entry, Piece, Plain, Reply, Request, Trap, Verdict};
 use ir_ast::{ModifyOp, Place, Ty, Width};
-use eager_tree::Violation;
 use perm_table::{Guard, Perm, RetagKind};
 use std::alloc::Global;
 use std::test::Fail;
@@ -550,7 +550,14 @@ fn exchanges(alloc: Global) -> Result<Vec<Case>, Fail> {
         modify(3, ModifyOp::Add, 5, y, 0, Verdict::Clean),
         modify(4, ModifyOp::Sub, 6, y, 5, Verdict::Clean),
         load(5, 0, WORD, x, u64::MAX, Verdict::Clean),
-        modify(6, ModifyOp::And, 12, y, u64::MAX, denied(0, 2, Perm::Frozen, true)),
+        modify(
+            6,
+            ModifyOp::And,
+            12,
+            y,
+            u64::MAX,
+            denied(0, 2, Perm::Frozen, true)
+        ),
         load(7, 0, WORD, x, 12, Verdict::Closed),
         free(8, true, x, Verdict::Closed),
     ]?;

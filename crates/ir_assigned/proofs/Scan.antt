@@ -59,7 +59,7 @@ scan_next entered marks ms i d best lt l =
     let more : scan entered marks (take (i + 1) ms) ≡ scan entered marks (take i ms) ++ listed o = ap (scan entered marks) (taken-next ms i d lt) ∙ scan_last entered marks (take i ms) (get_or ms i d) in
     subst (λ (z : List Fault). IsLeast (In z) (lesser best o)) (sym more) (least_more (scan entered marks (take i ms)) o best l)
 
--- ---- the mentions of one block; its mark is the one behind those of the blocks before it
+-- ---- the mentions of one block; its mark comes after those of the blocks before it
 or_false : (a : Bool) → a || false ≡ a
 or_false true = refl
 or_false false = refl

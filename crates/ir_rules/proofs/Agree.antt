@@ -1,4 +1,4 @@
--- Each test tells what the rules ask.
+-- Each test decides what its rule asks.
 use Rattle.std.proofs.Common.{◌≡◌, ℕ, zero, suc, Bool, true, false, cond, ◌&&◌, nat_eq, List, [], ◌∷◌, length, Option, Some, None, refl, sym, ap, subst, ◌∙◌, arith}
 use Rattle.std.specs.Prelude.{Decides, slice_get, codes}
 use Rattle.std.specs.Option.{option_map}

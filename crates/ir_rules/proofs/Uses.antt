@@ -1,4 +1,4 @@
--- The faults that the walk tells of uses are the wrong uses.
+-- The faults that the walk finds are the wrong uses.
 use Rattle.std.proofs.Common.{◌≡◌, ℕ, ◌≤◌, inl, inr, Bool, true, false, cond, List, [], ◌∷◌, length, map, take, Option, Some, None, refl, sym, ap, subst, ◌∙◌}
 use Rattle.std.specs.Prelude.{Contains, Decides}
 use Rattle.std.specs.Option.{option_map}
@@ -16,7 +16,7 @@ use Rattle.ir_rules.specs.Occurrences.Holds.{value, handle}
 use Rattle.ir_rules.specs.Occurrences.Event.{defines, uses}
 use Rattle.ir_rules.specs.Rules.{held, used, UseBreaks}
 use Rattle.ir_rules.specs.Least.{fault, IsLeast}
-use Rattle.ir_rules.specs.Walk.{same_width, same_ty, use_rule, event_fault, Told, WrongUse}
+use Rattle.ir_rules.specs.Walk.{same_width, same_ty, use_rule, event_fault, AnyGives, WrongUse}
 use Rattle.ir_rules.proofs.Any.{here, further, none_in, head_of, any-map, map-any, any-all}
 use Rattle.ir_rules.proofs.Least.{least-same}
 
@@ -118,21 +118,21 @@ told_event look es x (uses u) there is =
     let m = mapped (use_rule (look u.reg.name) u.wanted) u.reg.at x is in
     (u, used_has es u there, rule_breaks (look u.reg.name) u.wanted x.rule m.0, m.1)
 
-told_wrong : (look : List ℕ → Option Holds) (es : List Event) (x : Fault) → Told (event_fault look) es x → Wrong look es x
+told_wrong : (look : List ℕ → Option Holds) (es : List Event) (x : Fault) → AnyGives (event_fault look) es x → Wrong look es x
 told_wrong look es x t = told_event look es x t.0 t.1 t.2
 
-wrong_told : (look : List ℕ → Option Holds) (es : List Event) (x : Fault) → Wrong look es x → Told (event_fault look) es x
+wrong_told : (look : List ℕ → Option Holds) (es : List Event) (x : Fault) → Wrong look es x → AnyGives (event_fault look) es x
 wrong_told look es x w = (uses w.0, has_used es w.0 w.1, mapped_back (use_rule (look w.0.reg.name) w.0.wanted) w.0.reg.at x (breaks_rule x.rule (look w.0.reg.name) w.0.wanted w.2) w.3)
 
 -- the walk looks registers up in a table that answers as the definitions do
-pub least_wrong : (look : List ℕ → Option Holds) (es : List Event) (o : Option Fault) → ((q : List ℕ) → look q ≡ held es q) → IsLeast (Told (event_fault look) es) o → IsLeast (WrongUse es) o
-least_wrong look es o same l = least-same (Told (event_fault look) es) (WrongUse es) o
+pub least_wrong : (look : List ℕ → Option Holds) (es : List Event) (o : Option Fault) → ((q : List ℕ) → look q ≡ held es q) → IsLeast (AnyGives (event_fault look) es) o → IsLeast (WrongUse es) o
+least_wrong look es o same l = least-same (AnyGives (event_fault look) es) (WrongUse es) o
     (λ x t. let w = told_wrong look es x t in (w.0, w.1, subst (λ (z : Option Holds). UseBreaks x.rule z w.0.wanted) (same w.0.reg.name) w.2, w.3))
     (λ x w. wrong_told look es x (w.0, w.1, subst (λ (z : Option Holds). UseBreaks x.rule z w.0.wanted) (sym (same w.0.reg.name)) w.2, w.3)) l
 
 -- at the loop's end
 pub least_at_end : {A : Type 0} (g : A → Event) (look : List ℕ → Option Holds) (xs : List A) (n : ℕ) (o : Option Fault) → length xs ≤ n → ((q : List ℕ) → look q ≡ held (map g xs) q)
-    → IsLeast (Told (λ a. event_fault look (g a)) (take n xs)) o → IsLeast (WrongUse (map g xs)) o
+    → IsLeast (AnyGives (λ a. event_fault look (g a)) (take n xs)) o → IsLeast (WrongUse (map g xs)) o
 least_at_end g look xs n o le same l = least_wrong look (map g xs) o same
-    (least-same (Told (λ a. event_fault look (g a)) xs) (Told (event_fault look) (map g xs)) o (any-map (λ e x. event_fault look e ≡ Some x) g xs) (map-any (λ e x. event_fault look e ≡ Some x) g xs)
+    (least-same (AnyGives (λ a. event_fault look (g a)) xs) (AnyGives (event_fault look) (map g xs)) o (any-map (λ e x. event_fault look e ≡ Some x) g xs) (map-any (λ e x. event_fault look e ≡ Some x) g xs)
     (any-all (λ a x. event_fault look (g a) ≡ Some x) xs n o le l))

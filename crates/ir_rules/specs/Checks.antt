@@ -81,7 +81,7 @@ is_conversion Zext from to = nat_lt (bits from) (bits to)
 is_conversion Sext from to = nat_lt (bits from) (bits to)
 is_conversion Trunc from to = nat_lt (bits to) (bits from)
 
--- `look` tells what a register holds
+-- `look` says what a register holds
 abbrev pub op_fault : List Function → List HostEntry → (List ℕ → Option Holds) → Op → Option Fault
 op_fault fs hosts look (Call result f args) = name_fault (call_fits args result) (function_named fs f.name) f
 op_fault fs hosts look (Spawn f args) = name_fault (spawn_fits args) (function_named fs f.name) f

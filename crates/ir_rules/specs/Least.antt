@@ -27,7 +27,7 @@ name_of NoMain = codes "NoMain"
 abbrev pub fault : Rule → ℕ → Fault
 fault rule place = record { at = place; rule = rule }
 
--- the first is told before the second: its place is less, or the same with a rule that stands before
+-- the first comes before the second: its place is less, or the same with a rule of lesser rank
 abbrev pub is_before : Fault → Fault → Bool
 is_before x y = nat_lt x.at y.at || (nat_eq x.at y.at && nat_lt (rank x.rule) (rank y.rule))
 
@@ -36,7 +36,7 @@ lesser None b = b
 lesser (Some x) None = Some x
 lesser (Some x) (Some y) = if is_before y x then Some y else Some x
 
--- the first is not told after the second
+-- the first does not come after the second
 abbrev pub NotAfter : Fault → Fault → Type 0
 NotAfter x y = (x.at < y.at) ⊎ ((x.at ≡ y.at) × (rank x.rule ≤ rank y.rule))
 

@@ -1,5 +1,5 @@
 -- The walk over a function's occurrences.
-use Rattle.std.specs.Prelude.{◌≡◌, ℕ, Bool, true, false, List, [], ◌∷◌, Option, Some, None, Contains, if◌then◌else◌}
+use Rattle.std.specs.Prelude.{◌≡◌, ℕ, Bool, true, false, List, Option, Some, None, Contains, if◌then◌else◌}
 use denote.Ref.{Bor}
 use Rattle.std.specs.BTreeMap as tree
 use Rattle.std.specs.BTreeMap.{BTreeMap}
@@ -60,9 +60,9 @@ abbrev pub event_fault : (List ℕ → Option Holds) → Event → Option Fault
 event_fault look (defines d h) = None
 event_fault look (uses u) = option_map (λ r. fault r u.reg.at) (use_rule (look u.reg.name) u.wanted)
 
--- one of these tells the fault
-abbrev pub Told : {A : Type 0} → (A → Option Fault) → List A → Fault → Type 0
-Told f = AnyOf (λ e x. f e ≡ Some x)
+-- one of these gives the fault
+abbrev pub AnyGives : {A : Type 0} → (A → Option Fault) → List A → Fault → Type 0
+AnyGives f = AnyOf (λ e x. f e ≡ Some x)
 
 -- a use among the events that doesn't fit what its register holds
 abbrev pub WrongUse : List Event → Fault → Type 0

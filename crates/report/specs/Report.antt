@@ -68,7 +68,7 @@ is_trap _ = false
 abbrev pub any_end : (End → Bool) → RunRecord → Bool
 any_end test kept = list_any (λ log. test log.end) kept.threads
 
--- 9 for want of memory, else 6 for a limit, else 5 for a trap, else 1 for a violation, else 0
+-- 9 for out of memory, else 6 for a limit, else 5 for a trap, else 1 for a violation, else 0
 abbrev pub status_of : RunRecord → ℕ
 status_of kept =
     if any_end is_no_memory kept then 9

@@ -432,7 +432,7 @@ described_in b n es (l ∷ ls) own h = (
   All_from_has (λ (x : Entry). IsTrue (violates x) → IsDescribable x) l.entries
       (λ x at v.
       let o = own x (in_part b es x (subst (λ (xs : List Entry). Has xs x) h.0.part at)).0 in
-      record { deed = o.deed v; alloc = subst (λ (a : Option AllocNo). IsSome a) (sym o.names) refl }),
+      record { operation = o.deed v; alloc = subst (λ (a : Option AllocNo). IsSome a) (sym o.names) refl }),
   described_in (suc b) n es ls own h.1,
 )
 

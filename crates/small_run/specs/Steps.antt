@@ -15,7 +15,7 @@ use Rattle.history.specs.Histories.{replay, fits, is_make_step}
 use Rattle.ir_ast.specs.declared.types.Place.TheVariants.{Stack}
 use Rattle.alloc_state.specs.Log.{Log}
 use Rattle.history.specs.declared.log.AllocLog.{AllocLog}
-use Rattle.report.specs.Violation.{has_deed}
+use Rattle.report.specs.Violation.{is_operation}
 use Rattle.history.specs.Records.{violates}
 use Rattle.runs.specs.Interleaving.{Legal}
 use Rattle.runs.specs.Objects.{objects}
@@ -93,7 +93,7 @@ pub record IsOwnEntry (made : ℕ) (e : Entry) : Type 0 where
   pub above : 0 < alloc.0
   pub within : alloc.0 ≤ made
   pub spawns : spawned_by_reply e.reply.plain ≡ []
-  pub deed : IsTrue (violates e) → IsTrue (has_deed e.request)
+  pub deed : IsTrue (violates e) → IsTrue (is_operation e.request)
 
 -- an allocation's log, and the log with one more entry
 abbrev pub alloc_log : Log → AllocLog

@@ -16,7 +16,7 @@ use Rattle.history.specs.declared.entry.Entry.{Entry}
 use Rattle.history.specs.declared.entry.Reply.{Reply}
 use Rattle.history.specs.declared.entry.Request.{Request}
 use Rattle.history.specs.declared.entry.Request.TheVariants as request
-use Rattle.report.specs.Violation.{IsDescribable, has_deed}
+use Rattle.report.specs.Violation.{IsDescribable, is_operation}
 use Rattle.history.specs.Records.{thread_entries, violates, is_violation}
 use Rattle.history.specs.declared.log.AllocLog.{AllocLog}
 use Rattle.runs.specs.Interleaving.{Legal}
@@ -37,21 +37,21 @@ use Rattle.source_sem.specs.Starting.{setting_of}
 -- a violation is of a step that does something ---------------------------------------
 
 -- a Make is clean
-make_clean : (r : Request) (e : Entry) → e.request ≡ r → IsTrue (fits r) → ((size : ℕ) (place : Rattle.ir_ast.specs.declared.types.Place.Place) → r ≡ request.Make size place → violates e ≡ false) → IsTrue (violates e) → IsTrue (has_deed e.request)
+make_clean : (r : Request) (e : Entry) → e.request ≡ r → IsTrue (fits r) → ((size : ℕ) (place : Rattle.ir_ast.specs.declared.types.Place.Place) → r ≡ request.Make size place → violates e ≡ false) → IsTrue (violates e) → IsTrue (is_operation e.request)
 make_clean (request.Make size place) e is fitting clean bad = absurd (let no : false ≡ true = sym (clean size place refl) ∙ bad in cc)
 make_clean (request.Print v) e is fitting clean bad = absurd (cc)
 make_clean (request.Host n a b) e is fitting clean bad = absurd (cc)
 make_clean (request.Spawn f) e is fitting clean bad = absurd (cc)
 make_clean (request.Join c) e is fitting clean bad = absurd (cc)
-make_clean (request.Load at ty prov) e is fitting clean bad = subst (λ z. IsTrue (has_deed z)) (sym is) refl
-make_clean (request.Store at ty value carried prov) e is fitting clean bad = subst (λ z. IsTrue (has_deed z)) (sym is) refl
-make_clean (request.Modify at width op value prov) e is fitting clean bad = subst (λ z. IsTrue (has_deed z)) (sym is) refl
-make_clean (request.CmpXchg at width expected value prov) e is fitting clean bad = subst (λ z. IsTrue (has_deed z)) (sym is) refl
-make_clean (request.CopyOut at len prov) e is fitting clean bad = subst (λ z. IsTrue (has_deed z)) (sym is) refl
-make_clean (request.CopyIn at piece prov) e is fitting clean bad = subst (λ z. IsTrue (has_deed z)) (sym is) refl
-make_clean (request.Retag at len kind guard prov) e is fitting clean bad = subst (λ z. IsTrue (has_deed z)) (sym is) refl
-make_clean (request.EndProtector tag) e is fitting clean bad = subst (λ z. IsTrue (has_deed z)) (sym is) refl
-make_clean (request.Free at stack prov) e is fitting clean bad = subst (λ z. IsTrue (has_deed z)) (sym is) refl
+make_clean (request.Load at ty prov) e is fitting clean bad = subst (λ z. IsTrue (is_operation z)) (sym is) refl
+make_clean (request.Store at ty value carried prov) e is fitting clean bad = subst (λ z. IsTrue (is_operation z)) (sym is) refl
+make_clean (request.Modify at width op value prov) e is fitting clean bad = subst (λ z. IsTrue (is_operation z)) (sym is) refl
+make_clean (request.CmpXchg at width expected value prov) e is fitting clean bad = subst (λ z. IsTrue (is_operation z)) (sym is) refl
+make_clean (request.CopyOut at len prov) e is fitting clean bad = subst (λ z. IsTrue (is_operation z)) (sym is) refl
+make_clean (request.CopyIn at piece prov) e is fitting clean bad = subst (λ z. IsTrue (is_operation z)) (sym is) refl
+make_clean (request.Retag at len kind guard prov) e is fitting clean bad = subst (λ z. IsTrue (is_operation z)) (sym is) refl
+make_clean (request.EndProtector tag) e is fitting clean bad = subst (λ z. IsTrue (is_operation z)) (sym is) refl
+make_clean (request.Free at stack prov) e is fitting clean bad = subst (λ z. IsTrue (is_operation z)) (sym is) refl
 
 -- the object that an entry of a legal history was told by
 told_by : (o : objects.Object) (es : List Entry) (e : Entry) → Legal objects o es → Has es e → (p : objects.Object) × (e.reply ≡ (answer p e.request (record { 0 = e.stamp.0 })).reply)
@@ -176,6 +176,6 @@ right_records_are_reportable program input hosts limits kept r = record {
         let fitting = each (λ x. IsTrue (fits x.request)) log.entries e (recursion_from_All (λ (x : Entry). IsTrue (fits x.request)) log.entries history.fitting) g in
         let named = each (λ x. x.alloc ≡ Rattle.std.specs.Prelude.Some (record { 0 = log.number.0 })) log.entries e (recursion_from_All _ log.entries history.named) g in
         record {
-          deed = make_clean e.request e refl fitting (λ size place is. is_clean e told.0 size place told.1 is) bad;
+          operation = make_clean e.request e refl fitting (λ size place is. is_clean e told.0 size place told.1 is) bad;
           alloc = subst (λ (a : Option AllocNo). IsSome a) (sym named) refl;
         }
