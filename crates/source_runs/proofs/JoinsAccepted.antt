@@ -21,7 +21,7 @@ use Rattle.ir_rules.specs.Rules.{held, IsAccepted}
 use Rattle.ir_rules.specs.Rules.Broken.{of_path, of_first}
 use Rattle.source_sem.specs.Joining.{IsHeld, IsWanted, StandsAt, FunctionJoins}
 use Rattle.source_sem.proofs.Events.{each_in, block_held}
-use Rattle.source_runs.proofs.Accepting.{events_held}
+use Rattle.source_sem.proofs.Accepting.{events_held}
 use Rattle.source_runs.specs.AcceptedJoins.{AcceptedProgramsJoin}
 
 contains_at : {A : Type 0} (xs : List A) (k : ℕ) (x : A) → slice_get xs k ≡ Some x → Contains xs x

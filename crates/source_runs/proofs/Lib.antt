@@ -6,13 +6,8 @@ pub mod LegalHistories
 pub mod Reporting
 pub mod ReplayRuns
 pub mod JoinsAccepted
-pub mod JoinNames
-pub mod Accepting
 pub mod Bytes
-pub mod Deciding
-pub mod Every
 pub mod Keeping
-pub mod Numbers
 pub mod Operations
 pub mod Registers
 pub mod Words

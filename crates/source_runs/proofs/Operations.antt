@@ -24,7 +24,7 @@ use Rattle.ir_ast.specs.Attributes.{attr_of_call}
 use Rattle.ir_ast.specs.Numbers.{function_place}
 use Rattle.thread_parts.specs.Fits.{ValueFits}
 use Rattle.source_sem.specs.Source.{Setting, op_part}
-use Rattle.source_runs.specs.Typing.{ArgTyped, OpTyped}
+use Rattle.source_sem.specs.Typing.{ArgTyped, OpTyped}
 use Rattle.source_sem.specs.Starting.{ArgsFit}
 use Rattle.source_runs.specs.Invariant.{EnvFits, JoinsTyped}
 use Rattle.source_runs.proofs.Words.{WorkedFits, worked_fits, wrapped, cast_fits}

@@ -24,7 +24,7 @@ use Rattle.source_sem.proofs.Writes.{value_in-with_value}
 use Rattle.ir_ast.specs.Numbers.{function_place}
 use Rattle.thread_parts.specs.Fits.{ValueFits}
 use Rattle.ir_ast.specs.declared.program.Program.{Program}
-use Rattle.source_runs.specs.Typing.{DestHolds, OperandTyped, ArgTyped, ParamTyped}
+use Rattle.source_sem.specs.Typing.{DestHolds, OperandTyped, ArgTyped, ParamTyped}
 use Rattle.source_sem.specs.Starting.{ArgsFit}
 use Rattle.source_runs.specs.Invariant.{HoldsFit, EnvFits}
 

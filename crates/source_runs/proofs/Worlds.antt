@@ -49,10 +49,10 @@ use Rattle.source_sem.proofs.JoinSteps.{join_law}
 use Rattle.source_runs.specs.Invariant.{ResultFits, SourceFits, PlainFits, Told, WordLaw}
 use Rattle.source_runs.specs.Allocations.{ObjectFits, IsOfAllocation, IsMake}
 use Rattle.source_runs.specs.Worlds.{RepliesAlwaysFit, ReplaysLeaveRightRecords}
-use Rattle.source_runs.proofs.Accepting.{program_typed}
+use Rattle.source_sem.proofs.Accepting.{program_typed}
 use Rattle.source_runs.proofs.Bytes.{allocation_law, swapped_word}
 use Rattle.source_runs.proofs.Erasing.{right_records_erase}
-use Rattle.source_runs.proofs.Deciding.{function_found}
+use Rattle.source_sem.proofs.Deciding.{function_found}
 use Rattle.source_runs.proofs.Keeping.{word_law, fits_for_more}
 
 -- host functions that are handed words of 64 bits answer such words

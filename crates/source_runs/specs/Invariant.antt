@@ -33,7 +33,7 @@ use Rattle.ir_ast.specs.Numbers.{function_place}
 use Rattle.thread_parts.specs.Fits.{ValueFits}
 use Rattle.source_sem.specs.Source.{Setting, Source, Frame, Doing, Ready, Entering, Copying, Waiting, Retagging, Leaving, frames_type, source_start, source_child, source_ask, source_turn, source_answer, source_fits}
 use Rattle.source_sem.specs.Starting.{ArgsFit}
-use Rattle.source_runs.specs.Typing.{HasType, DestHolds, InstTyped, JumpTyped}
+use Rattle.source_sem.specs.Typing.{HasType, DestHolds, InstTyped, JumpTyped}
 
 -- Below, `K k c` says which threads run which functions: c is 0, or it is the number of a thread that runs function k.
 

@@ -8,5 +8,4 @@ pub mod Replays
 pub mod AcceptedJoins
 pub mod Allocations
 pub mod Invariant
-pub mod Typing
 pub mod Worlds

@@ -13,3 +13,8 @@ pub mod Loopings
 pub mod TrapLaws
 pub mod Asks
 pub mod Stepping
+pub mod JoinNames
+pub mod Every
+pub mod Deciding
+pub mod Numbers
+pub mod Accepting

@@ -11,3 +11,4 @@ pub mod Looping
 pub mod Traps
 pub mod Counting
 pub mod Children
+pub mod Typing

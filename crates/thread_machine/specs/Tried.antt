@@ -25,11 +25,11 @@ target_asked x t [] = (thread_site t, thread_ask x t) ∷ []
 target_asked x t (None ∷ more) = (thread_site t, thread_ask x t) ∷ target_asked x (thread_turn x t) more
 target_asked x t (Some r ∷ more) = (thread_site t, thread_ask x t) ∷ target_asked x (thread_answer x t r) more
 
--- where it stands then
-abbrev pub target_stands : TargetSetting → Thread → List (Option Reply) → Thread
-target_stands x t [] = t
-target_stands x t (None ∷ more) = target_stands x (thread_turn x t) more
-target_stands x t (Some r ∷ more) = target_stands x (thread_answer x t r) more
+-- its state then
+abbrev pub target_after : TargetSetting → Thread → List (Option Reply) → Thread
+target_after x t [] = t
+target_after x t (None ∷ more) = target_after x (thread_turn x t) more
+target_after x t (Some r ∷ more) = target_after x (thread_answer x t r) more
 
 abbrev pub one_block : List Line → TargetSetting
 one_block lines = record { target = record { version = 1; functions = record { name = 109 ∷ []; slots = 3; entry = line.PushFrame ∷ []; blocks = lines ∷ [] } ∷ [] }; input = [] }
@@ -76,7 +76,7 @@ shared_asked =
     ∷ (3, ask.Ended (end.Returned 7 None))
     ∷ []
 
--- Several instructions behind one `turn`, a number above its width, and an access whose check was taken out.
+-- Several instructions after one `turn`, a number above its width, and an access whose check was taken out.
 abbrev pub odd : TargetSetting
 odd =
     one_block

@@ -168,10 +168,11 @@ impl<'p> ThreadState<'p> {
         ensures width { self.new.width ≡ self.old.width }
         ensures callers { self.new.thread.callers ≡ self.old.thread.callers }
     {
+        let old = number_in_reply(&reply.plain);
         match self.top.line_after() {
             Some(Line::Store { .. }) => self.go_past_access(input),
             Some(Line::Modify { slot, .. } | Line::CmpXchg { slot, .. }) => {
-                self.top.set_word(*slot, number_in_reply(&reply.plain));
+                self.top.set_word(*slot, old);
                 self.go_past_access(input);
             }
             _ => {}

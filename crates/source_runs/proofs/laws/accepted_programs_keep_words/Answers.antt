@@ -1,5 +1,5 @@
 use Rattle.source_runs.specs.Invariant.{Passes}
-use Rattle.source_runs.proofs.Accepting.{program_typed}
+use Rattle.source_sem.proofs.Accepting.{program_typed}
 use Rattle.source_runs.proofs.Keeping.{word_law}
 use Rattle.source_runs.proofs.laws.accepted_programs_keep_words.Goals as goal
 

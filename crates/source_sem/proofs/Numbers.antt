@@ -20,7 +20,7 @@ use Rattle.ir_ast.specs.declared.program.Program.{Program}
 use Rattle.ir_ast.specs.declared.program.TypedVal.{TypedVal}
 use Rattle.ir_ast.specs.declared.types.Width.{Width}
 use Rattle.ir_ast.specs.declared.types.Width.TheVariants.{W8, W16, W32, W64}
-use Rattle.source_runs.proofs.Every.{each_left, each_right, each_flat, each_all}
+use Rattle.source_sem.proofs.Every.{each_left, each_right, each_flat, each_all}
 
 abbrev pub ValStands : TypedVal → Type 0
 ValStands v = CanStand (val_token v.ty v.val)

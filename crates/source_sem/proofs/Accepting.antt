@@ -42,11 +42,11 @@ use Rattle.runs.specs.Parts.{Has}
 use Rattle.source_sem.proofs.Events.{defines_gives}
 use Rattle.source_sem.proofs.Reading.{bytes_eq_same}
 use Rattle.source_sem.specs.Joining.{IsHeld, IsWanted}
-use Rattle.source_runs.proofs.JoinNames.{hit, times, second_of}
-use Rattle.source_runs.specs.Typing.{DestHolds, OperandTyped, ArgTyped, ParamTyped, Callee, OpTyped, InstTyped, GoalTyped, JumpTyped, BlockTyped, FunctionTyped, ProgramTyped}
-use Rattle.source_runs.proofs.Every.{in_contains, each_from, each_left, each_right, each_map, each_all, each_both}
-use Rattle.source_runs.proofs.Numbers.{ValStands, OpStands, InstStands, JumpStands, BlockStands, FunctionStands, args_stand, goal_args_stand, program_stands, number_fits}
-use Rattle.source_runs.proofs.Deciding.{type_decided, option_decided, list_decided, function_found, block_found, function_names}
+use Rattle.source_sem.proofs.JoinNames.{hit, times, second_of}
+use Rattle.source_sem.specs.Typing.{DestHolds, OperandTyped, ArgTyped, ParamTyped, Callee, OpTyped, InstTyped, GoalTyped, JumpTyped, BlockTyped, FunctionTyped, ProgramTyped}
+use Rattle.source_sem.proofs.Every.{in_contains, each_from, each_left, each_right, each_map, each_all, each_both}
+use Rattle.source_sem.proofs.Numbers.{ValStands, OpStands, InstStands, JumpStands, BlockStands, FunctionStands, args_stand, goal_args_stand, program_stands, number_fits}
+use Rattle.source_sem.proofs.Deciding.{type_decided, option_decided, list_decided, function_found, block_found, function_names}
 
 -- events -----------------------------------------------------------------------------
 

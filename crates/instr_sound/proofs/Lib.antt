@@ -1,0 +1,13 @@
+pub mod Slots
+pub mod Rows
+pub mod Places
+pub mod Lines
+pub mod Asking
+pub mod Frames
+pub mod Turning
+pub mod Turns
+pub mod Taking
+pub mod Whole
+pub mod Requests
+pub mod Keeping
+pub mod Walks

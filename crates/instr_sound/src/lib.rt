@@ -1,0 +1,8 @@
+//! A machine over target code that goes on as the thread over the text does.
+#![tactic(auto)]
+
+pub mod laws;
+mod sound;
+mod text;
+
+pub use sound::SoundMachine;
