@@ -1,0 +1,67 @@
+//! Accesses through a tag.
+ghost use Rattle.std.specs.Prelude.{◌≡◌, ℕ, ◌+◌, ◌<◌, ◌≤◌, length, IsTrue, IfSome, None};
+ghost use Rattle.eager_tree.specs.Tree.{is_node};
+ghost use Rattle.eager_tree.specs.Steps.{access as access_of};
+ghost use Rattle.lazy_tree.specs.Skip.{node_at};
+ghost use Rattle.lazy_tree.specs.Stands.{eager_of, eager_with};
+ghost use Rattle.lazy_access.specs.Requests.{HasWalk, HasCuts, IsReadyFor, IsQuiet, violation_in};
+
+use crate::check::Found;
+use crate::perform::join_path;
+use crate::visit::visit;
+use bsan_ids::{Span, Tag};
+use lazy_tree::LazyTree;
+use eager_tree::Violation;
+use perm_table::{Kind};
+
+/// The violation of a denial.
+pub fn violation_of(tree: &LazyTree, found: Option<Found>) -> Option<Violation>
+    requires { IfSome found (λ f. f.node < length tree.now.nodes) }
+    ensures { result ≡ violation_in tree.now.nodes found }
+{
+    match found {
+        None => None,
+        Some(found) => Some(Violation::Denied {
+            offset: found.offset,
+            node: tree.tag(found.node),
+            perm: found.perm,
+            local: found.local,
+        }),
+    }
+}
+
+/// An access through the node `x`.
+pub fn access_at(tree: &mut LazyTree, x: usize, span: Span, kind: Kind) -> Option<Violation>
+    requires node { x < length tree.old.nodes }
+    requires some { 1 ≤ span.len }
+    requires within { span.start + span.len ≤ tree.old.size }
+    requires walk { HasWalk tree.old }
+    requires cuts { HasCuts tree.old.size tree.old.nodes x span kind }
+    ensures tree { tree.new ≡ record tree.old { nodes = tree.new.nodes; visits = tree.new.visits } }
+    ensures count { length tree.new.nodes ≡ length tree.old.nodes }
+    ensures tags { (i : ℕ) → (node_at tree.new.nodes i).tag ≡ (node_at tree.old.nodes i).tag }
+    ensures answer { (result, eager_with tree.old.root tree.old.size tree.new.nodes) ≡ access_of (eager_of tree.old) (node_at tree.old.nodes x).tag span kind }
+    ensures quiet { result ≡ None → IsQuiet tree.new (node_at tree.old.nodes x).tag span kind }
+{
+    tree.soundness();
+    let found = visit(tree, x, span, kind, true);
+    join_path(tree, x);
+    tree.soundness();
+    violation_of(tree, found)
+}
+
+/// An access through a node, on at least one byte of the allocation, after `prepare` for it. A denied
+/// one changes no state; the violation names the least offset with a denial, then the least tag there.
+pub fn access(tree: &mut LazyTree, tag: Tag, span: Span, kind: Kind) -> Option<Violation>
+    requires node { IsTrue (is_node (eager_of tree.old) tag) }
+    requires some { 1 ≤ span.len }
+    requires within { span.start + span.len ≤ tree.old.size }
+    requires ready { IsReadyFor tree.old tag span kind }
+    ensures answer { (result, eager_of tree.new) ≡ access_of (eager_of tree.old) tag span kind }
+    ensures quiet { result ≡ None → IsQuiet tree.new tag span kind }
+{
+    match tree.find(tag) {
+        None => None,
+        Some(x) => access_at(tree, x, span, kind),
+    }
+}
