@@ -23,8 +23,9 @@ use Rattle.lazy_tree.specs.Stands.{eager_cell, eager_nodes, eager_with}
 use Rattle.lazy_tree.proofs.Adding.{sound-root}
 use Rattle.lazy_tree.proofs.Finding.{tag-same, has-not}
 use Rattle.lazy_access.specs.declared.check.Found.{Found}
-use Rattle.lazy_access.specs.Step.{slot_outcome, is_denied, stepped, IsQuietSlot}
-use Rattle.lazy_access.specs.Walk.{IsReached, IsMet, denies, Finds, IsQuietNode, NoDenial, IsLeast}
+use Rattle.lazy_tree.specs.Quiet.{slot_outcome, IsQuietSlot, IsQuietNode}
+use Rattle.lazy_access.specs.Step.{is_denied, stepped}
+use Rattle.lazy_access.specs.Walk.{IsReached, IsMet, denies, Finds, NoDenial, IsLeast}
 use Rattle.lazy_access.specs.Change.{IsDone, IsJoined}
 use Rattle.lazy_access.specs.Requests.{local_in, violation_in}
 use Rattle.lazy_access.proofs.Places.{met-all, stands-itself}

@@ -13,7 +13,8 @@ use Rattle.eager_tree.specs.Visit.{cell_of}
 use Rattle.lazy_tree.specs.declared.slot.Level.{Level}
 use Rattle.lazy_tree.specs.declared.slot.Slot.{Slot}
 use Rattle.lazy_tree.specs.Skip.{rank, need, own_rank}
-use Rattle.lazy_access.specs.Step.{slot_outcome, is_denied, level_after, stepped, IsQuietSlot}
+use Rattle.lazy_tree.specs.Quiet.{slot_outcome, level_after, IsQuietSlot}
+use Rattle.lazy_access.specs.Step.{is_denied, stepped}
 
 abbrev pub cell : Perm → Bool → Cell
 cell perm accessed = record { perm = perm; accessed = accessed }

@@ -23,7 +23,8 @@ use Rattle.lazy_tree.specs.declared.slot.Slot.{Slot}
 use Rattle.lazy_tree.specs.declared.tree.Node.{Node as Stored}
 use Rattle.lazy_tree.specs.Skip.{node_at, slot_at, no_node, no_slot, bool_at, above, IsSound}
 use Rattle.lazy_tree.specs.Stands.{eager_cell, eager_node, eager_nodes, eager_with}
-use Rattle.lazy_access.specs.Step.{slot_outcome, is_denied}
+use Rattle.lazy_tree.specs.Quiet.{slot_outcome}
+use Rattle.lazy_access.specs.Step.{is_denied}
 use Rattle.lazy_access.specs.Walk.{Stands, IsPath, denies}
 use Rattle.lazy_access.specs.Change.{IsJoined}
 use Rattle.lazy_access.proofs.Places.{stands-itself, stands-up, stands-down}

@@ -18,7 +18,7 @@ use Rattle.lazy_tree.specs.Stands.{eager_nodes}
 use Rattle.eager_tree.specs.declared.violation.Violation.{Violation}
 use Rattle.eager_tree.specs.declared.violation.Violation.TheVariants.{Denied}
 use Rattle.lazy_access.specs.declared.check.Found.{Found}
-use Rattle.lazy_access.specs.Walk.{IsCovered, IsQuietNode}
+use Rattle.lazy_access.specs.Walk.{IsCovered}
 use Rattle.lazy_access.specs.Change.{MayCut}
 
 -- whether a node is on the path of node x
@@ -39,11 +39,6 @@ HasCuts size nodes x span kind =
 pub record IsReadyFor (t : Shape) (tag : Tag) (span : Span) (kind : Kind) : Type 0 where
   pub walk : HasWalk t
   pub cuts : (x : ℕ) → x < length t.nodes → (node_at t.nodes x).tag ≡ tag → HasCuts t.size t.nodes x span kind
-
--- An access of the kind through the tag changes nothing on the span, and nothing is denied.
-abbrev pub IsQuiet : Shape → Tag → Span → Kind → Type 0
-IsQuiet t tag span kind =
-    (i : ℕ) → i < length t.nodes → IsQuietNode t.nodes (λ j. is_on_path (links (eager_nodes t.nodes)) tag (node_at t.nodes j).tag) kind span i
 
 -- the violation of a denial, if there is one
 abbrev pub violation_in : List Node → Option Found → Option Violation

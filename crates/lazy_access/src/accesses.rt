@@ -4,7 +4,8 @@ ghost use Rattle.eager_tree.specs.Tree.{is_node};
 ghost use Rattle.eager_tree.specs.Steps.{access as access_of};
 ghost use Rattle.lazy_tree.specs.Skip.{node_at};
 ghost use Rattle.lazy_tree.specs.Stands.{eager_of, eager_with};
-ghost use Rattle.lazy_access.specs.Requests.{HasWalk, HasCuts, IsReadyFor, IsQuiet, violation_in};
+ghost use Rattle.lazy_tree.specs.Quiet.{IsQuiet};
+ghost use Rattle.lazy_access.specs.Requests.{HasWalk, HasCuts, IsReadyFor, violation_in};
 
 use crate::check::Found;
 use crate::perform::join_path;

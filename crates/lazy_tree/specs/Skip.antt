@@ -1,9 +1,9 @@
 -- Skip levels: what a foreign access may pass over.
-use Rattle.std.specs.Prelude.{◌≡◌, ℕ, ◌+◌, ◌-◌, ◌^◌, min, ◌<◌, ◌≤◌, List, [], ◌∷◌, ◌++◌, length, Bool, true, false, Option, Some, None, slice_index_or, slice_set, replicate, MatchOption, IsFalse, nat_le, if◌then◌else◌}
+use Rattle.std.specs.Prelude.{◌≡◌, ℕ, ◌+◌, ◌-◌, ◌^◌, min, ◌<◌, ◌≤◌, ◌⊎◌, List, [], ◌∷◌, ◌++◌, length, Bool, true, false, Option, Some, None, slice_index_or, slice_set, replicate, MatchOption, IsTrue, IsFalse, nat_le, if◌then◌else◌}
 use Rattle.std.specs.Option.{option_map_or}
 use Rattle.bsan_ids.specs.declared.numbers.Tag.{Tag}
 use Rattle.bsan_ids.specs.declared.numbers.Span.{Span}
-use Rattle.range_map.specs.Ranges.{Ranges, next_start, overwrite}
+use Rattle.range_map.specs.Ranges.{Ranges, has_start, next_start, overwrite}
 use Rattle.perm_table.specs.declared.Perm.{Perm}
 use Rattle.perm_table.specs.declared.Perm.TheVariants.{Reserved, Conflicted, CellReserved, Unique, Frozen, Disabled, Cell}
 use Rattle.perm_table.specs.declared.Guard.{Guard}
@@ -136,11 +136,19 @@ root_slot = record { perm = Unique; accessed = true; level = Nothing }
 pub record IsPlanted (root : Tag) (size : ℕ) (nodes : List Node) : Type 0 where
   pub alone : nodes ≡ root_node root (node_at nodes 0).runs ∷ []
   pub bytes : (node_at nodes 0).runs.bytes ≡ replicate size root_slot
+  pub starts : (node_at nodes 0).runs.starts ≡ 0 ∷ []
+
+-- runs begin at the first byte and at the ends of the span alone
+abbrev pub BeginsAt : Span → List ℕ → Type 0
+BeginsAt span starts = (s : ℕ) → IsTrue (has_start s starts) → (s ≡ 0) ⊎ ((s ≡ span.start) ⊎ (s ≡ span.start + span.len))
 
 -- the runs of a new child: one slot on the span and another elsewhere
+pub record IsReadyChild (size : ℕ) (fresh touched : Slot) (span : Span) (runs : Ranges Slot) : Type 0 where
+  pub bytes : runs.bytes ≡ overwrite span.start (span.start + span.len) touched (replicate size fresh)
+  pub starts : BeginsAt span runs.starts
+
 abbrev pub IsReady : ℕ → Slot → Slot → Span → Option (Ranges Slot) → Type 0
-IsReady size fresh touched span made =
-    MatchOption made ⊥ (λ runs. runs.bytes ≡ overwrite span.start (span.start + span.len) touched (replicate size fresh))
+IsReady size fresh touched span made = MatchOption made ⊥ (IsReadyChild size fresh touched span)
 
 -- the counter stands still at its end
 abbrev pub counted : Shape → Shape

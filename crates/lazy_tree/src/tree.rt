@@ -221,6 +221,7 @@ impl LazyTree {
         requires node { node < length self.old.nodes }
         ensures tree { self.new ≡ record self.old { nodes = with_runs self.old.nodes node (node_at self.new.nodes node).runs } }
         ensures bytes { (node_at self.new.nodes node).runs.bytes ≡ (node_at self.old.nodes node).runs.bytes }
+        ensures fewer { (s : ℕ) → IsTrue (has_start s (node_at self.new.nodes node).runs.starts) → IsTrue (has_start s (node_at self.old.nodes node).runs.starts) }
         ensures spare { (node_at self.old.nodes node).runs.spare ≤ (node_at self.new.nodes node).runs.spare }
     {
         let changed = &mut self.nodes[node];

@@ -4,7 +4,7 @@ use Rattle.eager_tree.specs.Tree.{Tree}
 use Rattle.eager_tree.specs.Steps.{access}
 use Rattle.lazy_tree.specs.Shape.{Shape}
 use Rattle.lazy_tree.specs.Stands.{eager_with}
-use Rattle.lazy_access.specs.Requests.{IsQuiet}
+use Rattle.lazy_tree.specs.Quiet.{IsQuiet}
 use Rattle.lazy_access.proofs.Accessing.{root-alone, access-none}
 use Rattle.lazy_access.proofs.accesses.access.Goals as goal
 
