@@ -21,7 +21,7 @@ use Rattle.lazy_tree.specs.declared.tree.Node.{Node}
 use Rattle.lazy_tree.specs.Skip.{node_at, slot_at, no_slot, rank, IsSound, SameLinks, root_node, root_slot, IsPlanted}
 use Rattle.lazy_tree.specs.Stands.{eager_cell, eager_nodes, eager_with}
 use Rattle.lazy_tree.proofs.Adding.{sound-root}
-use Rattle.lazy_tree.proofs.Finding.{tag-same, has-not}
+use Rattle.lazy_tree.proofs.Finding.{tag-same, has-found, has-not}
 use Rattle.lazy_access.specs.declared.check.Found.{Found}
 use Rattle.lazy_tree.specs.Quiet.{slot_outcome, IsQuietSlot, IsQuietNode}
 use Rattle.lazy_access.specs.Step.{is_denied, stepped}
@@ -209,6 +209,11 @@ access-root root tag size span kind e =
 or-false : (b : Bool) → (b || false) ≡ b
 or-false true = refl
 or-false false = refl
+
+-- a stored node is a node of the eager tree
+pub node-there : (root : Tag) (size : ℕ) (nodes : List Node) (i : ℕ) (tag : Tag) → i < length nodes → (node_at nodes i).tag ≡ tag → is_node (eager_with root size nodes) tag ≡ true
+node-there root size [] i tag lt e = absurd (omega arith)
+node-there root size (n ∷ ns) i tag lt e = has-found (n ∷ ns) tag i lt e
 
 -- where no node has a tag of the tree, it is the root's and none is stored
 pub root-alone : (root : Tag) (size : ℕ) (nodes : List Node) (tag : Tag) → is_node (eager_with root size nodes) tag ≡ true → ((i : ℕ) → i < length nodes → (node_at nodes i).tag.0 ≡ tag.0 → ⊥) → (nodes ≡ []) × (tag ≡ root)

@@ -13,7 +13,7 @@ use Rattle.lazy_tree.specs.declared.slot.Slot.{Slot}
 use Rattle.eager_tree.specs.Tree.{links, is_on_path}
 use Rattle.lazy_tree.specs.declared.tree.Node.{Node}
 use Rattle.lazy_tree.specs.Shape.{Shape}
-use Rattle.lazy_tree.specs.Skip.{node_at, no_slot, rank, own_rank}
+use Rattle.lazy_tree.specs.Skip.{node_at, no_slot, rank, own_rank, BeginsAt}
 use Rattle.lazy_tree.specs.Stands.{eager_nodes}
 use Rattle.eager_tree.specs.declared.violation.Violation.{Violation}
 use Rattle.eager_tree.specs.declared.violation.Violation.TheVariants.{Denied}
@@ -54,6 +54,7 @@ IsFreshSlot kind guard accessed slot =
 pub record IsChild (size : ℕ) (span : Span) (kind : RetagKind) (guard : Guard) (runs : Ranges Slot) : Type 0 where
   pub sized : length runs.bytes ≡ size
   pub slots : (b : ℕ) → b < size → IsFreshSlot kind guard (is_within span b) (slice_index_or runs.bytes b no_slot)
+  pub starts : BeginsAt span runs.starts
 
 -- ready for a retag: the root is stored, and the runs of the child are made
 pub record IsReadyToRetag (t : Shape) (parent : Tag) (span : Span) (kind : RetagKind) (guard : Guard) : Type 0 where

@@ -5,10 +5,10 @@ ghost use Rattle.eager_tree.specs.Steps.{access as access_of};
 ghost use Rattle.lazy_tree.specs.Skip.{node_at};
 ghost use Rattle.lazy_tree.specs.Stands.{eager_of, eager_with};
 ghost use Rattle.lazy_tree.specs.Quiet.{IsQuiet};
+ghost use Rattle.lazy_access.specs.Change.{AddsStarts};
 ghost use Rattle.lazy_access.specs.Requests.{HasWalk, HasCuts, IsReadyFor, violation_in};
 
 use crate::check::Found;
-use crate::perform::join_path;
 use crate::visit::visit;
 use bsan_ids::{Span, Tag};
 use lazy_tree::LazyTree;
@@ -39,14 +39,15 @@ pub fn access_at(tree: &mut LazyTree, x: usize, span: Span, kind: Kind) -> Optio
     requires walk { HasWalk tree.old }
     requires cuts { HasCuts tree.old.size tree.old.nodes x span kind }
     ensures tree { tree.new ≡ record tree.old { nodes = tree.new.nodes; visits = tree.new.visits } }
+    ensures rises { tree.old.visits ≤ tree.new.visits }
     ensures count { length tree.new.nodes ≡ length tree.old.nodes }
     ensures tags { (i : ℕ) → (node_at tree.new.nodes i).tag ≡ (node_at tree.old.nodes i).tag }
+    ensures adds { AddsStarts tree.old.nodes tree.new.nodes span }
     ensures answer { (result, eager_with tree.old.root tree.old.size tree.new.nodes) ≡ access_of (eager_of tree.old) (node_at tree.old.nodes x).tag span kind }
     ensures quiet { result ≡ None → IsQuiet tree.new (node_at tree.old.nodes x).tag span kind }
 {
     tree.soundness();
     let found = visit(tree, x, span, kind, true);
-    join_path(tree, x);
     tree.soundness();
     violation_of(tree, found)
 }

@@ -28,6 +28,7 @@ pub struct Held {
 fn first_accessed(tree: &mut LazyTree, node: usize) -> Option<Held>
     requires { node < length tree.old.nodes }
     ensures tree { tree.new ≡ record tree.old { visits = tree.new.visits } }
+    ensures rises { tree.old.visits ≤ tree.new.visits }
     ensures first { FindsAccessed tree.old.size tree.old.nodes node result }
 {
     let size = tree.size();
@@ -67,6 +68,7 @@ fn sooner_held(kept: Option<Held>, found: Option<Held>) -> Option<Held>
 fn held_by(tree: &mut LazyTree, node: usize) -> Option<Held>
     requires { node < length tree.old.nodes }
     ensures tree { tree.new ≡ record tree.old { visits = tree.new.visits } }
+    ensures rises { tree.old.visits ≤ tree.new.visits }
     ensures held { FindsHeldBy tree.old.size tree.old.nodes node result }
 {
     if tree.guard(node) == Guard::Strong {
@@ -79,6 +81,7 @@ fn held_by(tree: &mut LazyTree, node: usize) -> Option<Held>
 /// The first byte that a strongly guarded node has accessed.
 pub fn first_held(tree: &mut LazyTree) -> Option<Held>
     ensures tree { tree.new ≡ record tree.old { visits = tree.new.visits } }
+    ensures rises { tree.old.visits ≤ tree.new.visits }
     ensures held { FindsHeld tree.old.size tree.old.nodes (length tree.old.nodes) result }
 {
     let mut held = None;
@@ -94,6 +97,7 @@ fn denial(tree: &mut LazyTree, x: usize, span: Span, kind: Kind) -> Option<Found
     requires within { span.start + span.len ≤ tree.old.size }
     requires walk { HasWalk tree.old }
     ensures tree { tree.new ≡ record tree.old { visits = tree.new.visits } }
+    ensures rises { tree.old.visits ≤ tree.new.visits }
     ensures found { Finds tree.old.nodes (local_in tree.old.nodes x) kind span (IsMet tree.old.nodes x true (length tree.old.nodes)) result }
 {
     tree.soundness();

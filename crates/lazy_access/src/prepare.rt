@@ -38,6 +38,7 @@ fn reserve_marked(
     requires within { span.start + span.len ≤ tree.old.size }
     requires path { IsPath tree.old.nodes x path.now }
     ensures tree { tree.new ≡ record tree.old { nodes = tree.new.nodes; visits = tree.new.visits } }
+    ensures rises { tree.old.visits ≤ tree.new.visits }
     ensures same { IsRoomier tree.old.nodes tree.new.nodes }
     ensures room { OnOk result ((i : ℕ) → i < length tree.old.nodes → MayCut tree.old.size tree.new.nodes span i ⊎ (IsFalse (bool_at path.now i) × IsCovered tree.old.nodes kind span i)) }
 {
@@ -58,6 +59,7 @@ fn reserve_cuts(tree: &mut LazyTree, x: usize, span: Span, kind: Kind) -> Result
     requires within { span.start + span.len ≤ tree.old.size }
     requires walk { HasWalk tree.old }
     ensures tree { tree.new ≡ record tree.old { nodes = tree.new.nodes; visits = tree.new.visits } }
+    ensures rises { tree.old.visits ≤ tree.new.visits }
     ensures same { IsRoomier tree.old.nodes tree.new.nodes }
     ensures room { OnOk result (HasCuts tree.new.size tree.new.nodes x span kind) }
 {
@@ -81,6 +83,7 @@ pub fn prepare_access(tree: &mut LazyTree, tag: Tag, span: Span, kind: Kind) -> 
     ensures same { eager_of tree.new ≡ eager_of tree.old }
     ensures nodes { IsRoomier tree.old.nodes tree.new.nodes }
     ensures tree { tree.new ≡ record tree.old { nodes = tree.new.nodes; visits = tree.new.visits; marks = tree.new.marks; list_room = tree.new.list_room } }
+    ensures rises { tree.old.visits ≤ tree.new.visits }
 {
     tree.reserve_walk()?;
     tree.soundness();

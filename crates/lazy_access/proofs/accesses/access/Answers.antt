@@ -15,10 +15,14 @@ returns-in-None-clause-answer c =
     access-none t.root t.size t.nodes c.args.tag c.args.span c.args.kind empty.0 empty.1
 
 pub returns-in-None-clause-quiet : goal.returns-in-None-clause-quiet
-returns-in-None-clause-quiet c = λ none i lt.
+returns-in-None-clause-quiet c = λ none. record {
+  node = c.requires.node;
+  within = c.requires.within;
+  still = λ i lt.
     let t = c.args.tree.now in
     let empty = root-alone t.root t.size t.nodes c.args.tag c.requires.node (c.find.ensures.none c.in-None.is) in
-    let zero : length t.nodes ≡ 0 = ap length empty.0 in absurd (omega (arith, lt, zero))
+    let zero : length t.nodes ≡ 0 = ap length empty.0 in absurd (omega (arith, lt, zero));
+}
 
 pub returns-in-Some-clause-answer : goal.returns-in-Some-clause-answer
 returns-in-Some-clause-answer c =

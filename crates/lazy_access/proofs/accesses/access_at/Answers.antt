@@ -1,14 +1,18 @@
-use Rattle.std.proofs.Common.{◌≡◌, ℕ, List, length, Option, Some, None, OnSome, refl, sym, ap, subst, ◌∙◌}
+use Rattle.std.proofs.Common.{◌≡◌, ℕ, true, inl, List, length, Option, Some, None, OnSome, refl, sym, ap, subst, ◌∙◌, arith}
 use Rattle.eager_tree.specs.declared.violation.Violation.{Violation}
 use Rattle.eager_tree.specs.declared.violation.Violation.TheVariants.{Denied}
 use Rattle.eager_tree.specs.Tree.{Tree}
 use Rattle.lazy_tree.specs.declared.tree.Node.{Node}
+use Rattle.bsan_ids.specs.declared.numbers.Span.{Span}
+use Rattle.range_map.specs.Ranges.{has_start}
 use Rattle.lazy_tree.specs.Shape.{Shape}
+use Rattle.lazy_access.specs.Change.{AddsStarts}
 use Rattle.lazy_tree.specs.Skip.{node_at, IsSound}
 use Rattle.lazy_tree.specs.Stands.{eager_with}
 use Rattle.lazy_access.specs.declared.check.Found.{Found}
 use Rattle.lazy_access.specs.Requests.{violation_in}
-use Rattle.lazy_access.proofs.Accessing.{access-tie, quiet-after}
+use Rattle.lazy_access.proofs.Accessing.{access-tie, quiet-after, node-there}
+use Rattle.lazy_access.proofs.Joining.{joined-none}
 use Rattle.lazy_access.proofs.accesses.access_at.Goals as goal
 
 -- the violation names the node by the same tag before and after
@@ -20,9 +24,9 @@ mid-tags : (before mid : List Node) (size x : ℕ) (o : Option Found) → OnSome
 mid-tags before mid size x None h done i = done refl i
 mid-tags before mid size x (Some f) same done i = ap (λ (ns : List Node). (node_at ns i).tag) same
 
-tags_kept : (c : goal.After-violation_of) → (i : ℕ) → (node_at c.join_path.new.tree.nodes i).tag ≡ (node_at c.args.tree.now.nodes i).tag
+tags_kept : (c : goal.After-violation_of) → (i : ℕ) → (node_at c.visit-found.new.tree.nodes i).tag ≡ (node_at c.args.tree.now.nodes i).tag
 tags_kept c i =
-    c.join_path.ensures.joined.links.tag i ∙ mid-tags c.args.tree.now.nodes c.visit-found.new.tree.nodes c.args.tree.now.size c.args.x c.visit-found.result c.visit-found.ensures.denied (λ none k. (c.visit-found.ensures.done none).links.tag k) i
+    mid-tags c.args.tree.now.nodes c.visit-found.new.tree.nodes c.args.tree.now.size c.args.x c.visit-found.result c.visit-found.ensures.denied (λ none k. (c.visit-found.ensures.done none).links.tag k) i
 
 pub returns-clause-tags : goal.returns-clause-tags
 returns-clause-tags c = tags_kept c
@@ -32,15 +36,15 @@ count-mid before mid None h done = done refl
 count-mid before mid (Some f) same done = ap length same
 
 pub returns-clause-count : goal.returns-clause-count
-returns-clause-count c = c.join_path.ensures.joined.links.count ∙ count-mid c.args.tree.now.nodes c.visit-found.new.tree.nodes c.visit-found.result c.visit-found.ensures.denied (λ none. (c.visit-found.ensures.done none).links.count)
+returns-clause-count c = count-mid c.args.tree.now.nodes c.visit-found.new.tree.nodes c.visit-found.result c.visit-found.ensures.denied (λ none. (c.visit-found.ensures.done none).links.count)
 
 pub returns-clause-answer : goal.returns-clause-answer
 returns-clause-answer c =
     let t = c.args.tree.now in
-    let size : c.join_path.new.tree.size ≡ t.size = ap (λ (s : Shape). s.size) c.join_path.ensures.tree ∙ ap (λ (s : Shape). s.size) c.visit-found.ensures.tree in
-    ap (λ (o : Option Violation). (let p : Option Violation × Tree = (o, eager_with t.root t.size c.join_path.new.tree.nodes) in p)) (c.violation_of.ensures ∙ violation-same t.nodes c.join_path.new.tree.nodes c.visit-found.result (tags_kept c))
-    ∙ access-tie t.root t.size t.nodes c.visit-found.new.tree.nodes c.join_path.new.tree.nodes c.args.x (node_at t.nodes c.args.x).tag c.args.kind c.args.span c.visit-found.result c.soundness.ensures.sound
-    (subst (λ s. IsSound s c.join_path.new.tree.nodes) size c.soundness-2.ensures.sound) c.requires.node c.requires.within refl c.visit-found.ensures.found c.visit-found.ensures.denied c.visit-found.ensures.done c.join_path.ensures.joined
+    let size : c.visit-found.new.tree.size ≡ t.size = ap (λ (s : Shape). s.size) c.visit-found.ensures.tree in
+    ap (λ (o : Option Violation). (let p : Option Violation × Tree = (o, eager_with t.root t.size c.visit-found.new.tree.nodes) in p)) (c.violation_of.ensures ∙ violation-same t.nodes c.visit-found.new.tree.nodes c.visit-found.result (tags_kept c))
+    ∙ access-tie t.root t.size t.nodes c.visit-found.new.tree.nodes c.visit-found.new.tree.nodes c.args.x (node_at t.nodes c.args.x).tag c.args.kind c.args.span c.visit-found.result c.soundness.ensures.sound
+    (subst (λ s. IsSound s c.visit-found.new.tree.nodes) size c.soundness-2.ensures.sound) c.requires.node c.requires.within refl c.visit-found.ensures.found c.visit-found.ensures.denied c.visit-found.ensures.done (joined-none c.visit-found.new.tree.nodes)
 
 none-found : (nodes : List Node) (o : Option Found) → violation_in nodes o ≡ None → o ≡ None
 none-found nodes None e = refl
@@ -49,5 +53,18 @@ none-found nodes (Some f) e = cc
 pub returns-clause-quiet : goal.returns-clause-quiet
 returns-clause-quiet c = λ none.
     let t = c.args.tree.now in
-    let clean : c.visit-found.result ≡ None = none-found c.join_path.new.tree.nodes c.visit-found.result (sym c.violation_of.ensures ∙ none) in
-    quiet-after t.size t.nodes c.visit-found.new.tree.nodes c.join_path.new.tree.nodes c.args.x (node_at t.nodes c.args.x).tag c.args.kind c.args.span c.soundness.ensures.sound refl (c.visit-found.ensures.done clean) c.join_path.ensures.joined
+    let clean : c.visit-found.result ≡ None = none-found c.visit-found.new.tree.nodes c.visit-found.result (sym c.violation_of.ensures ∙ none) in
+    let size : c.visit-found.new.tree.size ≡ t.size = ap (λ (s : Shape). s.size) c.visit-found.ensures.tree in
+    let d = c.visit-found.ensures.done clean in
+    record {
+      node = node-there c.visit-found.new.tree.root c.visit-found.new.tree.size c.visit-found.new.tree.nodes c.args.x (node_at t.nodes c.args.x).tag (omega (arith, c.requires.node, d.links.count)) (d.links.tag c.args.x);
+      within = omega (arith, c.requires.within, size);
+      still = quiet-after t.size t.nodes c.visit-found.new.tree.nodes c.visit-found.new.tree.nodes c.args.x (node_at t.nodes c.args.x).tag c.args.kind c.args.span c.soundness.ensures.sound refl d (joined-none c.visit-found.new.tree.nodes);
+    }
+
+adds-of : (before mid : List Node) (span : Span) (o : Option Found) → OnSome o (mid ≡ before) → (o ≡ None → AddsStarts before mid span) → AddsStarts before mid span
+adds-of before mid span None h done = done refl
+adds-of before mid span (Some f) same done = λ j s h. inl (subst (λ (ns : List Node). has_start s (node_at ns j).runs.starts ≡ true) same h)
+
+pub returns-clause-adds : goal.returns-clause-adds
+returns-clause-adds c = adds-of c.args.tree.now.nodes c.visit-found.new.tree.nodes c.args.span c.visit-found.result c.visit-found.ensures.denied (λ none. (c.visit-found.ensures.done none).adds)
