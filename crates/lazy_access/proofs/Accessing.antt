@@ -14,7 +14,7 @@ use Rattle.perm_table.specs.declared.Guard.TheVariants.{Free}
 use Rattle.eager_tree.specs.declared.violation.Violation.{Violation}
 use Rattle.eager_tree.specs.declared.violation.Violation.TheVariants.{Denied}
 use Rattle.eager_tree.specs.Tree.{Tree, links, is_node, is_on_path, new_tree}
-use Rattle.eager_tree.specs.Visit.{next_cell, next_nodes, visit_unless}
+use Rattle.eager_tree.specs.Visit.{next_cell, next_nodes, visit, visit_unless}
 use Rattle.eager_tree.specs.Steps.{on_span, access}
 use Rattle.lazy_tree.specs.declared.slot.Slot.{Slot}
 use Rattle.lazy_tree.specs.declared.tree.Node.{Node}
@@ -180,13 +180,13 @@ root-next (Some Write) g = refl
 pub root-sound : (root : Tag) (size : ℕ) → IsSound size (alone root size)
 root-sound root size = sound-root root size (root_runs size) (length-replicate size root_slot) (λ b lt. ap (λ (s : Slot). rank s.level) (get_or-replicate size b root_slot no_slot lt))
 
--- every access through the root alone is clean and changes nothing
-pub access-root : (root tag : Tag) (size : ℕ) (span : Span) (kind : Kind) → tag ≡ root → (let p : Option Violation × Tree = (None, new_tree size root) in p) ≡ access (new_tree size root) tag span kind
-access-root root tag size span kind e =
+-- every visit from the root alone is clean and changes nothing
+pub root-visit : (root : Tag) (size : ℕ) (kinds : ℕ → Option Kind) (reaches : Tag → Bool) → (let p : Option Violation × Tree = (None, new_tree size root) in p) ≡ visit kinds reaches root (new_tree size root)
+root-visit root size kinds reaches =
     let h = root-sound root size in
     let v : Visits size (alone root size) 0 (local_in (alone root size) 0) = visits-at size (alone root size) 0 h (omega arith) in
     ap (λ (t : Tree). (let p : Option Violation × Tree = (None, t) in p)) (sym (planted-tree root size (root_runs size) refl))
-    ∙ visit-done root size 0 (alone root size) (alone root size) (local_in (alone root size) 0) (on_span span kind) (λ _. true) v
+    ∙ visit-done root size 0 (alone root size) (alone root size) (local_in (alone root size) 0) kinds reaches v
     (record {
       count = refl;
       tag = λ i. refl;
@@ -195,16 +195,19 @@ access-root root tag size span kind e =
       was = h.sizes;
       is = h.sizes;
       reached = λ i b lt in_size yes.
-          subst (λ (s : Slot). eager_cell s ≡ next_cell (on_span span kind b) (local_in (alone root size) 0 i) (node_at (alone root size) i).guard (eager_cell s)) (sym (root-slot root size i b lt in_size))
-          (subst (λ (l : Bool). eager_cell root_slot ≡ next_cell (on_span span kind b) l (node_at (alone root size) i).guard (eager_cell root_slot)) (sym (root-local root size i h lt)) (root-next (on_span span kind b) (node_at (alone root size) i).guard));
+          subst (λ (s : Slot). eager_cell s ≡ next_cell (kinds b) (local_in (alone root size) 0 i) (node_at (alone root size) i).guard (eager_cell s)) (sym (root-slot root size i b lt in_size))
+          (subst (λ (l : Bool). eager_cell root_slot ≡ next_cell (kinds b) l (node_at (alone root size) i).guard (eager_cell root_slot)) (sym (root-local root size i h lt)) (root-next (kinds b) (node_at (alone root size) i).guard));
       left = λ i b lt in_size r. refl;
     })
-    (visit-silent size (alone root size) 0 (local_in (alone root size) 0) (on_span span kind) (λ _. true) v
-    (λ i b k lt in_size kinds r.
+    (visit-silent size (alone root size) 0 (local_in (alone root size) 0) kinds reaches v
+    (λ i b k lt in_size made r.
     subst (λ (s : Slot). is_denied (slot_outcome (node_at (alone root size) i).guard (local_in (alone root size) 0 i) k s) ≡ false) (sym (root-slot root size i b lt in_size))
     (subst (λ (l : Bool). is_denied (slot_outcome (node_at (alone root size) i).guard l k root_slot) ≡ false) (sym (root-local root size i h lt)) (root-fine k (node_at (alone root size) i).guard))))
-    ∙ ap (λ t. access t root span kind) (planted-tree root size (root_runs size) refl)
-    ∙ ap (λ (t : Tag). access (new_tree size root) t span kind) (sym e)
+    ∙ ap (visit kinds reaches root) (planted-tree root size (root_runs size) refl)
+
+-- every access through the root alone is clean and changes nothing
+pub access-root : (root tag : Tag) (size : ℕ) (span : Span) (kind : Kind) → tag ≡ root → (let p : Option Violation × Tree = (None, new_tree size root) in p) ≡ access (new_tree size root) tag span kind
+access-root root tag size span kind e = root-visit root size (on_span span kind) (λ _. true) ∙ ap (λ (t : Tag). access (new_tree size root) t span kind) (sym e)
 
 or-false : (b : Bool) → (b || false) ≡ b
 or-false true = refl

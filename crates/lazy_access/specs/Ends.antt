@@ -10,7 +10,6 @@ use Rattle.lazy_tree.specs.Skip.{node_at, slot_at, need, rank, SameLinks}
 use Rattle.lazy_tree.specs.Stands.{eager_cell}
 use Rattle.lazy_access.specs.declared.check.Found.{Found}
 use Rattle.lazy_access.specs.Walk.{IsReached, denies}
-use Rattle.lazy_access.specs.Change.{AddsStarts}
 use Rattle.lazy_access.specs.Requests.{local_in}
 
 -- the access that the end of the protector of node x makes at a byte
@@ -54,7 +53,11 @@ pub record IsEnded (size : ℕ) (before now : List Node) (x from to : ℕ) : Typ
 abbrev pub runs_from : ℕ → List Node → ℕ → ℕ → ℕ
 runs_from size nodes x from = count (λ b. b == from || has_start b (node_at nodes x).runs.starts) from (size - from)
 
--- each node that the accesses from a byte on may change has room to be cut at both ends of each run
-abbrev pub HasEndRoom : ℕ → List Node → List Node → ℕ → ℕ → ℕ → Type 0
-HasEndRoom size before now x from runs =
-    (i b : ℕ) (kind : Kind) → i < length before → IsReached before x false i → from ≤ b → b < size → end_kind before x b ≡ Some kind → (2 * runs ≤ (node_at now i).runs.spare) ⊎ (IsFalse (local_in before x i) × (need kind ≤ rank (slot_at before i b).level))
+-- each node that the accesses at the bytes from `from` to before `to` may change has room for so many runs
+abbrev pub HasEndRoomOn : List Node → ℕ → ℕ → ℕ → ℕ → Type 0
+HasEndRoomOn nodes x from to runs =
+    (i b : ℕ) (kind : Kind) → i < length nodes → IsReached nodes x false i → from ≤ b → b < to → end_kind nodes x b ≡ Some kind → (runs ≤ (node_at nodes i).runs.spare) ⊎ (IsFalse (local_in nodes x i) × (need kind ≤ rank (slot_at nodes i b).level))
+
+-- room for two cuts at each run of node x
+abbrev pub HasEndRoom : ℕ → List Node → ℕ → Type 0
+HasEndRoom size nodes x = HasEndRoomOn nodes x 0 size (2 * runs_from size nodes x 0)

@@ -11,7 +11,7 @@ use Rattle.lazy_tree.specs.Skip.{node_at}
 use Rattle.lazy_access.specs.declared.request.TreeRequest.{TreeRequest}
 use Rattle.lazy_access.specs.declared.request.TreeRequest.TheVariants.{Access, Retag, EndProtector, FreeAll}
 use Rattle.lazy_access.specs.Requests.{HasWalk, HasRoom, IsChild}
-use Rattle.lazy_access.specs.Ends.{HasEndRoom, runs_from}
+use Rattle.lazy_access.specs.Ends.{HasEndRoom}
 
 -- for an access
 pub record IsReadyToAccess (t : Shape) (tag : Tag) (span : Span) (kind : Kind) : Type 0 where
@@ -28,7 +28,7 @@ pub record IsReadyToRetag (t : Shape) (parent : Tag) (span : Span) (kind : Retag
 -- for the end of a protector
 pub record IsReadyToEnd (t : Shape) (tag : Tag) : Type 0 where
   pub walk : HasWalk t
-  pub cuts : (x : ℕ) → x < length t.nodes → (node_at t.nodes x).tag ≡ tag → HasEndRoom t.size t.nodes t.nodes x 0 (runs_from t.size t.nodes x 0)
+  pub cuts : (x : ℕ) → x < length t.nodes → (node_at t.nodes x).tag ≡ tag → HasEndRoom t.size t.nodes x
 
 -- there is all the memory that the request may take
 abbrev pub IsReadyFor : Shape → TreeRequest → Type 0

@@ -18,7 +18,7 @@ use Rattle.lazy_tree.specs.Stands.{eager_nodes}
 use Rattle.eager_tree.specs.declared.violation.Violation.{Violation}
 use Rattle.eager_tree.specs.declared.violation.Violation.TheVariants.{Denied}
 use Rattle.lazy_access.specs.declared.check.Found.{Found}
-use Rattle.lazy_access.specs.Walk.{IsCovered}
+use Rattle.lazy_access.specs.Walk.{IsReached, IsCovered}
 use Rattle.lazy_access.specs.Change.{MayCut}
 
 -- whether a node is on the path of node x
@@ -30,15 +30,15 @@ pub record HasWalk (t : Shape) : Type 0 where
   pub marks : t.marks ≡ length t.nodes
   pub list : length t.nodes ≤ t.list_room
 
--- each node that an access through node x may change has room for the span's ends
-abbrev pub HasCuts : ℕ → List Node → ℕ → Span → Kind → Type 0
-HasCuts size nodes x span kind =
-    (i : ℕ) → i < length nodes → MayCut size nodes span i ⊎ (IsFalse (local_in nodes x i) × IsCovered nodes kind span i)
+-- each node that an access through node x may change has room to be cut at the span's ends
+abbrev pub HasCuts : ℕ → List Node → ℕ → Bool → Span → Kind → Type 0
+HasCuts size nodes x below span kind =
+    (i : ℕ) → i < length nodes → IsReached nodes x below i → MayCut size nodes span i ⊎ (IsFalse (local_in nodes x i) × IsCovered nodes kind span i)
 
--- ready for an access
-pub record IsReadyFor (t : Shape) (tag : Tag) (span : Span) (kind : Kind) : Type 0 where
-  pub walk : HasWalk t
-  pub cuts : (x : ℕ) → x < length t.nodes → (node_at t.nodes x).tag ≡ tag → HasCuts t.size t.nodes x span kind
+-- each node that an access through node x may change has room for so many runs
+abbrev pub HasRoom : List Node → ℕ → Bool → Span → Kind → ℕ → Type 0
+HasRoom nodes x below span kind runs =
+    (i : ℕ) → i < length nodes → IsReached nodes x below i → (runs ≤ (node_at nodes i).runs.spare) ⊎ (IsFalse (local_in nodes x i) × IsCovered nodes kind span i)
 
 -- the violation of a denial, if there is one
 abbrev pub violation_in : List Node → Option Found → Option Violation
@@ -55,10 +55,3 @@ pub record IsChild (size : ℕ) (span : Span) (kind : RetagKind) (guard : Guard)
   pub sized : length runs.bytes ≡ size
   pub slots : (b : ℕ) → b < size → IsFreshSlot kind guard (is_within span b) (slice_index_or runs.bytes b no_slot)
   pub starts : BeginsAt span runs.starts
-
--- ready for a retag: the root is stored, and the runs of the child are made
-pub record IsReadyToRetag (t : Shape) (parent : Tag) (span : Span) (kind : RetagKind) (guard : Guard) : Type 0 where
-  pub stored : 1 ≤ length t.nodes
-  pub access : IsReadyFor t parent span Read
-  pub room : 1 ≤ t.spare
-  pub child : MatchOption t.ready ⊥ (IsChild t.size span kind guard)

@@ -1,12 +1,14 @@
 //! Accesses through a tag.
-ghost use Rattle.std.specs.Prelude.{◌≡◌, ℕ, ◌+◌, ◌<◌, ◌≤◌, length, IsTrue, IfSome, None};
+ghost use Rattle.std.specs.Prelude.{◌≡◌, ℕ, ◌+◌, ◌<◌, ◌≤◌, length, IsTrue, true, IfSome, None};
 ghost use Rattle.eager_tree.specs.Tree.{is_node};
 ghost use Rattle.eager_tree.specs.Steps.{access as access_of};
 ghost use Rattle.lazy_tree.specs.Skip.{node_at};
 ghost use Rattle.lazy_tree.specs.Stands.{eager_of, eager_with};
 ghost use Rattle.lazy_tree.specs.Quiet.{IsQuiet};
 ghost use Rattle.lazy_access.specs.Change.{AddsStarts};
-ghost use Rattle.lazy_access.specs.Requests.{HasWalk, HasCuts, IsReadyFor, violation_in};
+ghost use Rattle.lazy_access.specs.Requests.{HasWalk, HasCuts, violation_in};
+ghost use Rattle.lazy_access.specs.Ready.{IsReadyFor};
+ghost use Rattle.lazy_access.specs.declared.request.TreeRequest.TheVariants.{Access as ToAccess};
 
 use crate::check::Found;
 use crate::visit::visit;
@@ -37,7 +39,7 @@ pub fn access_at(tree: &mut LazyTree, x: usize, span: Span, kind: Kind) -> Optio
     requires some { 1 ≤ span.len }
     requires within { span.start + span.len ≤ tree.old.size }
     requires walk { HasWalk tree.old }
-    requires cuts { HasCuts tree.old.size tree.old.nodes x span kind }
+    requires cuts { HasCuts tree.old.size tree.old.nodes x true span kind }
     ensures tree { tree.new ≡ record tree.old { nodes = tree.new.nodes; visits = tree.new.visits } }
     ensures rises { tree.old.visits ≤ tree.new.visits }
     ensures count { length tree.new.nodes ≡ length tree.old.nodes }
@@ -58,7 +60,9 @@ pub fn access(tree: &mut LazyTree, tag: Tag, span: Span, kind: Kind) -> Option<V
     requires node { IsTrue (is_node (eager_of tree.old) tag) }
     requires some { 1 ≤ span.len }
     requires within { span.start + span.len ≤ tree.old.size }
-    requires ready { IsReadyFor tree.old tag span kind }
+    requires ready { IsReadyFor tree.old (ToAccess tag span kind) }
+    ensures size { tree.new.size ≡ tree.old.size }
+    ensures rises { tree.old.visits ≤ tree.new.visits }
     ensures answer { (result, eager_of tree.new) ≡ access_of (eager_of tree.old) tag span kind }
     ensures quiet { result ≡ None → IsQuiet tree.new tag span kind }
 {

@@ -1,18 +1,18 @@
 //! Frees.
-ghost use Rattle.std.specs.Prelude.{◌≡◌, ℕ, ◌+◌, ◌<◌, ◌≤◌, length, IsTrue, true};
+ghost use Rattle.std.specs.Prelude.{◌≡◌, ℕ, ◌+◌, ◌<◌, ◌≤◌, length, IsTrue};
 ghost use Rattle.eager_tree.specs.Tree.{is_node};
 ghost use Rattle.eager_tree.specs.Steps.{free_all as free_of};
 ghost use Rattle.lazy_tree.specs.Skip.{node_at};
 ghost use Rattle.lazy_tree.specs.Stands.{eager_of};
-ghost use Rattle.lazy_access.specs.Walk.{IsMet, Finds};
-ghost use Rattle.lazy_access.specs.Requests.{local_in, HasWalk};
+ghost use Rattle.lazy_access.specs.Requests.{HasWalk};
+ghost use Rattle.lazy_access.specs.Ready.{IsReadyFor};
+ghost use Rattle.lazy_access.specs.declared.request.TreeRequest.TheVariants.{FreeAll as ToFree};
 ghost use Rattle.lazy_access.specs.Held.{FindsAccessed, FindsHeldBy, FindsHeld, earlier_held};
 
 use crate::accesses::{access_at, violation_of};
-use crate::check::{Found, check};
-use crate::path::{clear_path, mark_path};
+use crate::visit::denial;
 use bsan_ids::{Span, Tag};
-use lazy_tree::{LazyTree, Scratch};
+use lazy_tree::LazyTree;
 use eager_tree::Violation;
 use perm_table::{Guard, Kind, Perm};
 
@@ -91,31 +91,12 @@ pub fn first_held(tree: &mut LazyTree) -> Option<Held>
     held
 }
 
-/// Finds what an access through the node `x` would deny. No node changes.
-fn denial(tree: &mut LazyTree, x: usize, span: Span, kind: Kind) -> Option<Found>
-    requires node { x < length tree.old.nodes }
-    requires within { span.start + span.len ≤ tree.old.size }
-    requires walk { HasWalk tree.old }
-    ensures tree { tree.new ≡ record tree.old { visits = tree.new.visits } }
-    ensures rises { tree.old.visits ≤ tree.new.visits }
-    ensures found { Finds tree.old.nodes (local_in tree.old.nodes x) kind span (IsMet tree.old.nodes x true (length tree.old.nodes)) result }
-{
-    tree.soundness();
-    let Scratch {
-        mut path,
-        mut opened,
-    } = tree.lend();
-    mark_path(tree, x, &mut path);
-    let seen = check(tree, x, span, kind, true, path.as_slice(), &mut opened);
-    clear_path(tree, x, &mut path);
-    tree.settle(Scratch { path, opened });
-    seen.found
-}
-
 /// Frees the allocation through the node `x`.
 fn free_at(tree: &mut LazyTree, x: usize) -> Option<Violation>
     requires node { x < length tree.old.nodes }
     requires walk { HasWalk tree.old }
+    ensures size { tree.new.size ≡ tree.old.size }
+    ensures rises { tree.old.visits ≤ tree.new.visits }
     ensures answer { (result, eager_of tree.new) ≡ free_of (eager_of tree.old) (node_at tree.old.nodes x).tag }
 {
     tree.soundness();
@@ -125,7 +106,7 @@ fn free_at(tree: &mut LazyTree, x: usize) -> Option<Violation>
     };
     match first_held(tree) {
         None => access_at(tree, x, whole, Kind::Write),
-        Some(held) => match denial(tree, x, whole, Kind::Write) {
+        Some(held) => match denial(tree, x, whole, Kind::Write, true) {
             Some(found) => violation_of(tree, Some(found)),
             None => Some(Violation::StrongFree {
                 offset: held.offset,
@@ -136,11 +117,13 @@ fn free_at(tree: &mut LazyTree, x: usize) -> Option<Violation>
     }
 }
 
-/// Frees the allocation through a node, after `prepare_free`: a write on all bytes. Where that is not
+/// Frees the allocation through a node, after `prepare` for it: a write on all bytes. Where that is not
 /// denied, it is a violation still if a node with a strong guard has accessed a byte.
 pub fn free_all(tree: &mut LazyTree, tag: Tag) -> Option<Violation>
     requires node { IsTrue (is_node (eager_of tree.old) tag) }
-    requires walk { HasWalk tree.old }
+    requires ready { IsReadyFor tree.old (ToFree tag) }
+    ensures size { tree.new.size ≡ tree.old.size }
+    ensures rises { tree.old.visits ≤ tree.new.visits }
     ensures answer { (result, eager_of tree.new) ≡ free_of (eager_of tree.old) tag }
 {
     match tree.find(tag) {

@@ -3,7 +3,8 @@ ghost use Rattle.std.specs.Prelude.{◌≡◌, ℕ, ◌+◌, ◌<◌, ◌≤◌,
 ghost use Rattle.eager_tree.specs.Tree.{is_node};
 ghost use Rattle.eager_tree.specs.Steps.{retag as retag_of};
 ghost use Rattle.lazy_tree.specs.Stands.{eager_of};
-ghost use Rattle.lazy_access.specs.Requests.{IsReadyToRetag};
+ghost use Rattle.lazy_access.specs.Ready.{IsReadyFor};
+ghost use Rattle.lazy_access.specs.declared.request.TreeRequest.TheVariants.{Retag as ToRetag};
 
 use crate::accesses::access_at;
 use crate::lower::lower;
@@ -26,7 +27,9 @@ pub fn retag(
     requires some { 1 ≤ span.len }
     requires within { span.start + span.len ≤ tree.old.size }
     requires newest { All (λ n. n.tag.0 < tag.0) (eager_of tree.old).nodes }
-    requires ready { IsReadyToRetag tree.old parent span kind guard }
+    requires ready { IsReadyFor tree.old (ToRetag parent span kind guard) }
+    ensures size { tree.new.size ≡ tree.old.size }
+    ensures rises { tree.old.visits ≤ tree.new.visits }
     ensures answer { (result, eager_of tree.new) ≡ retag_of (eager_of tree.old) parent span kind guard tag }
 {
     let Some(x) = tree.find(parent) else {

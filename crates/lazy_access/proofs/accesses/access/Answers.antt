@@ -1,4 +1,4 @@
-use Rattle.std.proofs.Common.{◌≡◌, length, Option, ap, subst, ◌∙◌, arith}
+use Rattle.std.proofs.Common.{◌≡◌, true, length, Option, ap, subst, ◌∙◌, arith}
 use Rattle.eager_tree.specs.declared.violation.Violation.{Violation}
 use Rattle.eager_tree.specs.Tree.{Tree}
 use Rattle.eager_tree.specs.Steps.{access}
@@ -6,6 +6,7 @@ use Rattle.lazy_tree.specs.Shape.{Shape}
 use Rattle.lazy_tree.specs.Stands.{eager_with}
 use Rattle.lazy_tree.specs.Quiet.{IsQuiet}
 use Rattle.lazy_access.proofs.Accessing.{root-alone, access-none}
+use Rattle.lazy_access.proofs.Reserving.{cuts-room}
 use Rattle.lazy_access.proofs.accesses.access.Goals as goal
 
 pub returns-in-None-clause-answer : goal.returns-in-None-clause-answer
@@ -36,3 +37,7 @@ returns-in-Some-clause-answer c =
 pub returns-in-Some-clause-quiet : goal.returns-in-Some-clause-quiet
 returns-in-Some-clause-quiet c = λ none.
     subst (λ t. IsQuiet c.access_at.new.tree t c.args.span c.args.kind) c.in-Some.ensures.some.1 (c.access_at.ensures.quiet none)
+
+pub access_at-requires-clause-cuts : goal.access_at-requires-clause-cuts
+access_at-requires-clause-cuts c =
+    cuts-room c.args.tree.now.size c.args.tree.now.nodes c.in-Some.x true c.args.span c.args.kind (c.requires.ready.cuts c.in-Some.x c.in-Some.ensures.some.0 c.in-Some.ensures.some.1)

@@ -18,8 +18,8 @@ use Rattle.lazy_access.proofs.Accessing.{access-found, access-clean, left_by}
 use Rattle.lazy_access.proofs.Freeing.{whole, free-clean, free-denied, free-held}
 use Rattle.lazy_access.proofs.frees.free_at.Goals as goal
 
-pub returns-in-None : goal.returns-in-None
-returns-in-None c =
+pub returns-in-None-clause-answer : goal.returns-in-None-clause-answer
+returns-in-None-clause-answer c =
     let t = c.args.tree.now in
     let before : eager_of c.first_held.new.tree ≡ eager_of t = ap eager_of c.first_held.ensures.tree in
     let nodes : c.first_held.new.tree.nodes ≡ t.nodes = ap (λ (s : Shape). s.nodes) c.first_held.ensures.tree in
@@ -36,10 +36,10 @@ returns-in-None c =
     ∙ ap (λ e. access e (node_at c.first_held.new.tree.nodes c.args.x).tag (whole c.size.result) Write) before
     ∙ ap (λ (ns : List Node). access (eager_of t) (node_at ns c.args.x).tag (whole c.size.result) Write) nodes
     ∙ ap (λ n. access (eager_of t) (node_at t.nodes c.args.x).tag (whole n) Write) c.size.ensures in
-    record { answer = eager ∙ free-clean t.root t.size t.nodes c.access_at.new.tree.nodes (node_at t.nodes c.args.x).tag c.access_at.result c.soundness.ensures.sound (omega (arith, c.requires.node)) held done }
+    eager ∙ free-clean t.root t.size t.nodes c.access_at.new.tree.nodes (node_at t.nodes c.args.x).tag c.access_at.result c.soundness.ensures.sound (omega (arith, c.requires.node)) held done
 
-pub returns-in-Some-denial : goal.returns-in-Some-denial
-returns-in-Some-denial c =
+pub returns-in-Some-denial-clause-answer : goal.returns-in-Some-denial-clause-answer
+returns-in-Some-denial-clause-answer c =
     let t = c.args.tree.now in
     let f : Found = c.in-Some-denial.found in
     let held : c.first_held.new.tree.nodes ≡ t.nodes = ap (λ (s : Shape). s.nodes) c.first_held.ensures.tree in
@@ -51,15 +51,12 @@ returns-in-Some-denial c =
     (subst (λ (o : Option Found). Finds t.nodes (local_in t.nodes c.args.x) Write (whole c.size.result) (IsMet t.nodes c.args.x true (length t.nodes)) o) c.in-Some-denial.is
     (subst (λ (ns : List Node). Finds ns (local_in ns c.args.x) Write (whole c.size.result) (IsMet ns c.args.x true (length ns)) c.denial.result) held c.denial.ensures.found)) in
     let v : Violation = Denied f.offset (node_at t.nodes f.node).tag f.perm f.local in
-    record {
-      answer =
-          ap (λ (o : Option Violation). (let p : Option Violation × Tree = (o, eager_of c.denial.new.tree) in p)) (c.violation_of.ensures ∙ ap (λ (ns : List Node). violation_in ns (Some f)) nodes)
+    ap (λ (o : Option Violation). (let p : Option Violation × Tree = (o, eager_of c.denial.new.tree) in p)) (c.violation_of.ensures ∙ ap (λ (ns : List Node). violation_in ns (Some f)) nodes)
           ∙ ap (λ (e : Tree). (let p : Option Violation × Tree = (Some v, e) in p)) eager
-          ∙ free-denied t.root t.size t.nodes (node_at t.nodes c.args.x).tag v (omega (arith, c.requires.node)) (access-found t.root t.size t.nodes c.args.x Write (whole t.size) f c.soundness.ensures.sound c.requires.node (omega arith) found);
-    }
+          ∙ free-denied t.root t.size t.nodes (node_at t.nodes c.args.x).tag v (omega (arith, c.requires.node)) (access-found t.root t.size t.nodes c.args.x Write (whole t.size) f c.soundness.ensures.sound c.requires.node (omega arith) found)
 
-pub returns-in-None-denial : goal.returns-in-None-denial
-returns-in-None-denial c =
+pub returns-in-None-denial-clause-answer : goal.returns-in-None-denial-clause-answer
+returns-in-None-denial-clause-answer c =
     let t = c.args.tree.now in
     let h : Held = c.in-Some.held in
     let held : c.first_held.new.tree.nodes ≡ t.nodes = ap (λ (s : Shape). s.nodes) c.first_held.ensures.tree in
@@ -71,10 +68,7 @@ returns-in-None-denial c =
     (subst (λ (o : Option Found). Finds t.nodes (local_in t.nodes c.args.x) Write (whole c.size.result) (IsMet t.nodes c.args.x true (length t.nodes)) o) c.in-None-denial.is
     (subst (λ (ns : List Node). Finds ns (local_in ns c.args.x) Write (whole c.size.result) (IsMet ns c.args.x true (length ns)) c.denial.result) held c.denial.ensures.found)) in
     let first = subst (λ (o : Option Held). FindsHeld t.size t.nodes (length t.nodes) o) c.in-Some.is c.first_held.ensures.held in
-    record {
-      answer =
-          ap (λ (g : Tag). (let p : Option Violation × Tree = (Some (StrongFree h.offset g h.perm), eager_of c.denial.new.tree) in p)) (c.tag.ensures ∙ ap (λ (ns : List Node). (node_at ns h.node).tag) nodes)
+    ap (λ (g : Tag). (let p : Option Violation × Tree = (Some (StrongFree h.offset g h.perm), eager_of c.denial.new.tree) in p)) (c.tag.ensures ∙ ap (λ (ns : List Node). (node_at ns h.node).tag) nodes)
           ∙ ap (λ (e : Tree). (let p : Option Violation × Tree = (Some (StrongFree h.offset (node_at t.nodes h.node).tag h.perm), e) in p)) eager
           ∙ free-held t.root t.size t.nodes (node_at t.nodes c.args.x).tag h (left_by t.root t.size t.nodes c.args.x Write (whole t.size)) c.soundness.ensures.sound (omega (arith, c.requires.node)) first
-          (access-clean t.root t.size t.nodes c.args.x Write (whole t.size) c.soundness.ensures.sound c.requires.node clean);
-    }
+          (access-clean t.root t.size t.nodes c.args.x Write (whole t.size) c.soundness.ensures.sound c.requires.node clean)

@@ -1,4 +1,4 @@
-use Rattle.std.proofs.Common.{◌≡◌, ◌<◌, length, Option, Some, None, MatchOption, IfSome, sym, ap, subst, ◌∙◌, arith}
+use Rattle.std.proofs.Common.{◌≡◌, true, ◌<◌, length, Option, Some, None, MatchOption, IfSome, sym, ap, subst, ◌∙◌, arith}
 use Rattle.range_map.specs.Ranges.{Ranges}
 use Rattle.perm_table.specs.declared.Perm.{Perm}
 use Rattle.perm_table.specs.declared.Kind.TheVariants.{Read}
@@ -13,6 +13,7 @@ use Rattle.lazy_access.specs.Change.{IsLowered}
 use Rattle.lazy_access.specs.Requests.{local_in, IsChild}
 use Rattle.lazy_access.proofs.Accessing.{root-alone}
 use Rattle.lazy_access.proofs.Retagging.{retag-end, retag-denied, may-add-made, nodes-lowered, newest-stored}
+use Rattle.lazy_access.proofs.Reserving.{cuts-room}
 use Rattle.lazy_access.proofs.retags.retag.Goals as goal
 
 pub returns-in_default : goal.returns-in_default
@@ -43,23 +44,20 @@ add-requires-clause-may c =
     (subst (λ s. MatchOption t.ready ⊥ (IsChild s c.args.span c.args.kind c.args.guard)) (sym now) c.requires.ready.child)
     (c.of.ensures ∙ ap (λ (p : Perm). own_rank p c.args.guard) c.start.ensures)))
 
-pub returns-in-Some-access_at : goal.returns-in-Some-access_at
-returns-in-Some-access_at c =
+pub returns-in-Some-access_at-clause-answer : goal.returns-in-Some-access_at-clause-answer
+returns-in-Some-access_at-clause-answer c =
     let t = c.args.tree.now in
     let v : Violation = c.in-Some-access_at.violation in
     let root : c.access_at.new.tree.root ≡ t.root = ap (λ (s : Shape). s.root) c.access_at.ensures.tree in
     let size : c.access_at.new.tree.size ≡ t.size = ap (λ (s : Shape). s.size) c.access_at.ensures.tree in
-    record {
-      answer =
-          retag-denied (eager_with t.root t.size t.nodes) (eager_with c.access_at.new.tree.root c.access_at.new.tree.size c.access_at.new.tree.nodes) c.args.parent c.args.tag c.args.span c.args.kind c.args.guard v
+    retag-denied (eager_with t.root t.size t.nodes) (eager_with c.access_at.new.tree.root c.access_at.new.tree.size c.access_at.new.tree.nodes) c.args.parent c.args.tag c.args.span c.args.kind c.args.guard v
           (ap (λ r. (let p : Option Violation × Tree = (Some v, eager_with r c.access_at.new.tree.size c.access_at.new.tree.nodes) in p)) root
           ∙ ap (λ s. (let p : Option Violation × Tree = (Some v, eager_with t.root s c.access_at.new.tree.nodes) in p)) size
           ∙ ap (λ (o : Option Violation). (let p : Option Violation × Tree = (o, eager_with t.root t.size c.access_at.new.tree.nodes) in p)) (sym c.in-Some-access_at.is) ∙ c.access_at.ensures.answer
-          ∙ ap (λ g. access (eager_with t.root t.size t.nodes) g c.args.span Read) c.in-Some.ensures.some.1);
-    }
+          ∙ ap (λ g. access (eager_with t.root t.size t.nodes) g c.args.span Read) c.in-Some.ensures.some.1)
 
-pub returns : goal.returns
-returns c =
+pub returns-clause-answer : goal.returns-clause-answer
+returns-clause-answer c =
     let t = c.args.tree.now in
     let ready : c.lower.new.tree.ready ≡ t.ready = ap (λ (s : Shape). s.ready) c.lower.ensures.tree ∙ ap (λ (s : Shape). s.ready) c.access_at.ensures.tree in
     let now : c.access_at.new.tree.size ≡ t.size = ap (λ (s : Shape). s.size) c.access_at.ensures.tree in
@@ -71,9 +69,7 @@ returns c =
     subst (λ s. IsLowered s c.access_at.new.tree.nodes c.lower.new.tree.nodes (local_in c.access_at.new.tree.nodes c.in-Some.x) c.of.result (length c.access_at.new.tree.nodes)) now c.lower.ensures.lowered in
     let read = ap (λ (o : Option Violation). (let p : Option Violation × Tree = (o, eager_with t.root t.size c.access_at.new.tree.nodes) in p)) (sym c.in_default-access_at.is) ∙ c.access_at.ensures.answer
     ∙ ap (λ g. access (eager_with t.root t.size t.nodes) g c.args.span Read) c.in-Some.ensures.some.1 in
-    record {
-      answer =
-          ap (λ r. (let p : Option Violation × Tree = (None, eager_with r c.add.new.self.size c.add.new.self.nodes) in p)) root
+    ap (λ r. (let p : Option Violation × Tree = (None, eager_with r c.add.new.self.size c.add.new.self.nodes) in p)) root
           ∙ ap (λ s. (let p : Option Violation × Tree = (None, eager_with t.root s c.add.new.self.nodes) in p)) sum
           ∙ retag-end t.root t.size t.nodes c.access_at.new.tree.nodes c.lower.new.tree.nodes c.add.new.self.nodes c.in-Some.x c.args.parent c.args.tag c.args.span c.args.kind c.args.guard t.ready
           (omega (arith, c.requires.ready.stored, c.access_at.ensures.count)) (subst (λ s. IsSound s c.lower.new.tree.nodes) size c.soundness-2.ensures.sound) lt
@@ -81,5 +77,8 @@ returns c =
           (nodes-lowered t.size c.access_at.new.tree.nodes c.lower.new.tree.nodes (local_in c.access_at.new.tree.nodes c.in-Some.x) c.of.result (subst (λ s. IsSound s c.access_at.new.tree.nodes) now c.soundness.ensures.sound) (subst (λ s. IsSound s c.lower.new.tree.nodes) size c.soundness-2.ensures.sound) lowered)
           c.requires.ready.child
           (subst (λ (o : Option (Ranges Slot)). IfSome o (λ runs. c.add.new.self.nodes ≡ with_child c.lower.new.tree.nodes c.in-Some.x c.args.tag c.args.guard runs)) ready c.add.ensures.nodes)
-          read;
-    }
+          read
+
+pub access_at-requires-clause-cuts : goal.access_at-requires-clause-cuts
+access_at-requires-clause-cuts c =
+    cuts-room c.args.tree.now.size c.args.tree.now.nodes c.in-Some.x true c.args.span Read (c.requires.ready.access.cuts c.in-Some.x c.in-Some.ensures.some.0 c.in-Some.ensures.some.1)
