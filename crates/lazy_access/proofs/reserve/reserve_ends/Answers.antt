@@ -25,7 +25,7 @@ pub returns-clause-room : goal.returns-clause-room
 returns-clause-room c =
     let size : c.runs.tree.size ≡ c.args.tree.now.size = ap (λ (t : Shape). t.size) c.runs.invariant.tree in
     let whole : c.runs.at ≡ c.runs.tree.size = omega (arith, c.runs-test.false, c.runs.invariant.within, c.size-size.ensures, size) in
-    let twice : c.in-Some.runs ≡ c.count_runs.result * 2 = ? in
+    let twice : c.in-Some.runs ≡ c.count_runs.result * 2 = c.in-Some.ensures.1 in
     let count : runs_from c.runs.tree.size c.runs.tree.nodes c.args.x 0 ≡ runs_from c.args.tree.now.size c.args.tree.now.nodes c.args.x 0 =
     ap (λ s. runs_from s c.runs.tree.nodes c.args.x 0) size ∙ runs-same c.args.tree.now.size c.args.tree.now.nodes c.runs.tree.nodes c.args.x c.runs.invariant.same in
     end-room-less c.runs.tree.nodes c.args.x 0 c.runs.tree.size c.in-Some.runs (2 * runs_from c.runs.tree.size c.runs.tree.nodes c.args.x 0) (omega (arith, count, c.count_runs.ensures, twice))
