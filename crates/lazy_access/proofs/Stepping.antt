@@ -1,5 +1,5 @@
 -- What one slot becomes by an access.
-use Rattle.std.proofs.Common.{◌≡◌, ℕ, ◌≤◌, Bool, true, false, refl, arith}
+use Rattle.std.proofs.Common.{◌≡◌, ℕ, ◌≤◌, Bool, true, false, refl, ap, ◌∙◌, arith}
 use Rattle.perm_table.specs.declared.Kind.{Kind}
 use Rattle.perm_table.specs.declared.Kind.TheVariants.{Read, Write}
 use Rattle.perm_table.specs.declared.Guard.{Guard}
@@ -11,8 +11,10 @@ use Rattle.perm_table.specs.Table.{outcome}
 use Rattle.eager_tree.specs.declared.node.Cell.{Cell}
 use Rattle.eager_tree.specs.Visit.{cell_of}
 use Rattle.lazy_tree.specs.declared.slot.Level.{Level}
+use Rattle.lazy_tree.specs.declared.slot.Level.TheVariants.{Nothing}
 use Rattle.lazy_tree.specs.declared.slot.Slot.{Slot}
 use Rattle.lazy_tree.specs.Skip.{rank, need, own_rank}
+use Rattle.lazy_tree.proofs.LevelLemmas.{own_rank-stays}
 use Rattle.lazy_tree.specs.Quiet.{slot_outcome, level_after, IsQuietSlot}
 use Rattle.lazy_access.specs.Step.{is_denied, stepped}
 
@@ -278,3 +280,17 @@ local-quiet Write Strong Disabled a l e = cc
 
 pub stepped-quiet : (guard : Guard) (kind : Kind) (slot : Slot) → is_denied (slot_outcome guard true kind slot) ≡ false → IsQuietSlot guard true kind (stepped guard true kind slot)
 stepped-quiet guard kind slot e = local-quiet kind guard slot.perm slot.accessed slot.level e
+
+-- a local access that changes nothing leaves the slot
+pub quiet-stepped : (guard : Guard) (kind : Kind) (slot : Slot) → IsQuietSlot guard true kind slot → stepped guard true kind slot ≡ slot
+quiet-stepped guard Read slot q = let e = q.0 in rw e refl
+quiet-stepped guard Write slot q =
+    let e = q.0 in
+    let l : Nothing ≡ slot.level = q.1 in
+    rw (e, l) refl
+
+-- an access that changes nothing is not denied
+pub slot-silent : (guard : Guard) (local : Bool) (kind : Kind) (slot : Slot) → rank slot.level ≤ own_rank slot.perm guard → IsQuietSlot guard local kind slot → is_denied (slot_outcome guard local kind slot) ≡ false
+slot-silent guard true kind slot own q = ap is_denied q.0
+slot-silent guard false Read slot own q = ap is_denied (own_rank-stays Read guard slot.perm slot.accessed (omega (arith, own, q)))
+slot-silent guard false Write slot own q = ap is_denied (own_rank-stays Write guard slot.perm slot.accessed (omega (arith, own, q)))

@@ -362,6 +362,11 @@ link-at all [] i lt = absurd (omega arith)
 link-at all (n ∷ ns) zero lt = refl
 link-at all (n ∷ ns) (suc i) lt = link-at all ns i (omega (arith, lt))
 
+-- the tag of a node, with its parent's
+pub link_at : (nodes : List Stored) (i : ℕ) → i < length nodes → get_or (links (eager_nodes nodes)) i (no_node.tag, None) ≡ ((node_at nodes i).tag, option_map (λ p. (node_at nodes p).tag) (node_at nodes i).parent)
+unfolding eager_nodes
+link_at nodes i lt = link-at nodes nodes i lt
+
 pub links-same : (before after : List Stored) → length after ≡ length before → ((i : ℕ) → (node_at after i).tag ≡ (node_at before i).tag) → ((i : ℕ) → (node_at after i).parent ≡ (node_at before i).parent) → links (eager_nodes after) ≡ links (eager_nodes before)
 unfolding eager_nodes
 links-same before after count tag parent =

@@ -1,10 +1,11 @@
 //! Accesses through a tag.
-ghost use Rattle.std.specs.Prelude.{◌≡◌, ℕ, ◌+◌, ◌<◌, ◌≤◌, length, IsTrue, true, IfSome, None};
-ghost use Rattle.eager_tree.specs.Tree.{is_node};
+ghost use Rattle.std.specs.Prelude.{◌≡◌, ℕ, ◌+◌, ◌*◌, ◌<◌, ◌≤◌, ◌⊎◌, length, IsTrue, true, IfSome, None};
+ghost use Rattle.eager_tree.specs.Tree.{is_node, links};
 ghost use Rattle.eager_tree.specs.Steps.{access as access_of};
 ghost use Rattle.lazy_tree.specs.Skip.{node_at};
 ghost use Rattle.lazy_tree.specs.Stands.{eager_of, eager_with};
 ghost use Rattle.lazy_tree.specs.Quiet.{IsQuiet};
+ghost use Rattle.lazy_tree.specs.Ring.{ring_size, is_cut, pieces};
 ghost use Rattle.lazy_access.specs.Change.{AddsStarts};
 ghost use Rattle.lazy_access.specs.Requests.{HasWalk, HasCuts, violation_in};
 ghost use Rattle.lazy_access.specs.Ready.{IsReadyFor};
@@ -47,6 +48,7 @@ pub fn access_at(tree: &mut LazyTree, x: usize, span: Span, kind: Kind) -> Optio
     ensures adds { AddsStarts tree.old.nodes tree.new.nodes span }
     ensures answer { (result, eager_with tree.old.root tree.old.size tree.new.nodes) ≡ access_of (eager_of tree.old) (node_at tree.old.nodes x).tag span kind }
     ensures quiet { result ≡ None → IsQuiet tree.new (node_at tree.old.nodes x).tag span kind }
+    ensures ring { IsQuiet tree.old (node_at tree.old.nodes x).tag span kind → tree.new.visits ≤ tree.old.visits + ring_size (links (eager_of tree.old).nodes) (node_at tree.old.nodes x).tag * pieces tree.old.nodes span }
 {
     tree.soundness();
     let found = visit(tree, x, span, kind, true);
@@ -65,6 +67,8 @@ pub fn access(tree: &mut LazyTree, tag: Tag, span: Span, kind: Kind) -> Option<V
     ensures rises { tree.old.visits ≤ tree.new.visits }
     ensures answer { (result, eager_of tree.new) ≡ access_of (eager_of tree.old) tag span kind }
     ensures quiet { result ≡ None → IsQuiet tree.new tag span kind }
+    ensures ring { IsQuiet tree.old tag span kind → tree.new.visits ≤ tree.old.visits + ring_size (links (eager_of tree.old).nodes) tag * pieces tree.old.nodes span }
+    ensures cuts { (s : ℕ) → IsTrue (is_cut tree.new.nodes s) → IsTrue (is_cut tree.old.nodes s) ⊎ ((s ≡ span.start) ⊎ (s ≡ span.start + span.len)) }
 {
     match tree.find(tag) {
         None => None,

@@ -6,6 +6,7 @@ ghost use Rattle.lazy_tree.specs.Skip.{node_at, run_after};
 ghost use Rattle.lazy_tree.specs.Stands.{eager_cell, eager_of};
 ghost use Rattle.lazy_access.specs.Change.{AddsStarts};
 ghost use Rattle.lazy_access.specs.Requests.{HasWalk};
+ghost use Rattle.lazy_tree.specs.Ring.{is_cut};
 ghost use Rattle.lazy_access.specs.Ready.{IsReadyFor};
 ghost use Rattle.lazy_access.specs.declared.request.TreeRequest.TheVariants.{EndProtector as ToEnd};
 ghost use Rattle.lazy_access.specs.Ends.{FindsEnd, NoEndDenial, HasEndRoomOn, HasEndRoom, IsEnded};
@@ -105,6 +106,7 @@ fn end_runs(tree: &mut LazyTree, x: usize)
     ensures tree { tree.new ≡ record tree.old { nodes = tree.new.nodes; visits = tree.new.visits } }
     ensures rises { tree.old.visits ≤ tree.new.visits }
     ensures ended { IsEnded tree.old.size tree.old.nodes tree.new.nodes x 0 tree.old.size }
+    ensures cuts { (s : ℕ) → s < tree.old.size → IsTrue (is_cut tree.new.nodes s) → IsTrue (is_cut tree.old.nodes s) }
 {
     tree.soundness();
     let size = tree.size();
@@ -124,6 +126,7 @@ fn end_at(tree: &mut LazyTree, x: usize) -> Option<Violation>
     requires room { HasEndRoom tree.old.size tree.old.nodes x }
     ensures size { tree.new.size ≡ tree.old.size }
     ensures rises { tree.old.visits ≤ tree.new.visits }
+    ensures cuts { (s : ℕ) → s < tree.old.size → IsTrue (is_cut tree.new.nodes s) → IsTrue (is_cut tree.old.nodes s) }
     ensures answer { (result, eager_of tree.new) ≡ end_of (eager_of tree.old) (node_at tree.old.nodes x).tag }
 {
     tree.soundness();
@@ -147,6 +150,7 @@ pub fn end_protector(tree: &mut LazyTree, tag: Tag) -> Option<Violation>
     requires ready { IsReadyFor tree.old (ToEnd tag) }
     ensures size { tree.new.size ≡ tree.old.size }
     ensures rises { tree.old.visits ≤ tree.new.visits }
+    ensures cuts { (s : ℕ) → s < tree.old.size → IsTrue (is_cut tree.new.nodes s) → IsTrue (is_cut tree.old.nodes s) }
     ensures answer { (result, eager_of tree.new) ≡ end_of (eager_of tree.old) tag }
 {
     match tree.find(tag) {

@@ -5,6 +5,7 @@ ghost use Rattle.eager_tree.specs.Steps.{free_all as free_of};
 ghost use Rattle.lazy_tree.specs.Skip.{node_at};
 ghost use Rattle.lazy_tree.specs.Stands.{eager_of};
 ghost use Rattle.lazy_access.specs.Requests.{HasWalk};
+ghost use Rattle.lazy_tree.specs.Ring.{is_cut};
 ghost use Rattle.lazy_access.specs.Ready.{IsReadyFor};
 ghost use Rattle.lazy_access.specs.declared.request.TreeRequest.TheVariants.{FreeAll as ToFree};
 ghost use Rattle.lazy_access.specs.Held.{FindsAccessed, FindsHeldBy, FindsHeld, earlier_held};
@@ -97,6 +98,7 @@ fn free_at(tree: &mut LazyTree, x: usize) -> Option<Violation>
     requires walk { HasWalk tree.old }
     ensures size { tree.new.size ≡ tree.old.size }
     ensures rises { tree.old.visits ≤ tree.new.visits }
+    ensures cuts { (s : ℕ) → s < tree.old.size → IsTrue (is_cut tree.new.nodes s) → IsTrue (is_cut tree.old.nodes s) }
     ensures answer { (result, eager_of tree.new) ≡ free_of (eager_of tree.old) (node_at tree.old.nodes x).tag }
 {
     tree.soundness();
@@ -124,6 +126,7 @@ pub fn free_all(tree: &mut LazyTree, tag: Tag) -> Option<Violation>
     requires ready { IsReadyFor tree.old (ToFree tag) }
     ensures size { tree.new.size ≡ tree.old.size }
     ensures rises { tree.old.visits ≤ tree.new.visits }
+    ensures cuts { (s : ℕ) → s < tree.old.size → IsTrue (is_cut tree.new.nodes s) → IsTrue (is_cut tree.old.nodes s) }
     ensures answer { (result, eager_of tree.new) ≡ free_of (eager_of tree.old) tag }
 {
     match tree.find(tag) {

@@ -1,8 +1,9 @@
 //! Retags.
-ghost use Rattle.std.specs.Prelude.{◌≡◌, ℕ, ◌+◌, ◌<◌, ◌≤◌, length, IsTrue, All, OnSome, None};
+ghost use Rattle.std.specs.Prelude.{◌≡◌, ℕ, ◌+◌, ◌<◌, ◌≤◌, ◌⊎◌, length, IsTrue, All, OnSome, None};
 ghost use Rattle.eager_tree.specs.Tree.{is_node};
 ghost use Rattle.eager_tree.specs.Steps.{retag as retag_of};
 ghost use Rattle.lazy_tree.specs.Stands.{eager_of};
+ghost use Rattle.lazy_tree.specs.Ring.{is_cut};
 ghost use Rattle.lazy_access.specs.Ready.{IsReadyFor};
 ghost use Rattle.lazy_access.specs.declared.request.TreeRequest.TheVariants.{Retag as ToRetag};
 
@@ -30,6 +31,7 @@ pub fn retag(
     requires ready { IsReadyFor tree.old (ToRetag parent span kind guard) }
     ensures size { tree.new.size ≡ tree.old.size }
     ensures rises { tree.old.visits ≤ tree.new.visits }
+    ensures cuts { (s : ℕ) → IsTrue (is_cut tree.new.nodes s) → IsTrue (is_cut tree.old.nodes s) ⊎ ((s ≡ span.start) ⊎ (s ≡ span.start + span.len)) }
     ensures answer { (result, eager_of tree.new) ≡ retag_of (eager_of tree.old) parent span kind guard tag }
 {
     let Some(x) = tree.find(parent) else {

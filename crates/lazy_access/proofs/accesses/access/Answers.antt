@@ -1,6 +1,8 @@
-use Rattle.std.proofs.Common.{◌≡◌, true, length, Option, ap, subst, ◌∙◌, arith}
+use Rattle.std.proofs.Common.{◌≡◌, ℕ, ◌+◌, ◌*◌, ◌≤◌, inl, sym, true, length, Option, ap, subst, ◌∙◌, arith}
 use Rattle.eager_tree.specs.declared.violation.Violation.{Violation}
-use Rattle.eager_tree.specs.Tree.{Tree}
+use Rattle.eager_tree.specs.Tree.{Tree, links}
+use Rattle.lazy_tree.specs.Ring.{ring_size, pieces}
+use Rattle.lazy_access.proofs.Ringing.{cuts-added}
 use Rattle.eager_tree.specs.Steps.{access}
 use Rattle.lazy_tree.specs.Shape.{Shape}
 use Rattle.lazy_tree.specs.Stands.{eager_with}
@@ -41,3 +43,16 @@ returns-in-Some-clause-quiet c = λ none.
 pub access_at-requires-clause-cuts : goal.access_at-requires-clause-cuts
 access_at-requires-clause-cuts c =
     cuts-room c.args.tree.now.size c.args.tree.now.nodes c.in-Some.x true c.args.span c.args.kind (c.requires.ready.cuts c.in-Some.x c.in-Some.ensures.some.0 c.in-Some.ensures.some.1)
+
+pub returns-in-None-clause-cuts : goal.returns-in-None-clause-cuts
+returns-in-None-clause-cuts c = λ s e. inl e
+
+pub returns-in-Some-clause-cuts : goal.returns-in-Some-clause-cuts
+returns-in-Some-clause-cuts c = λ s e. cuts-added c.args.tree.now.nodes c.access_at.new.tree.nodes c.args.span s c.access_at.ensures.count c.access_at.ensures.adds e
+
+pub returns-in-Some-clause-ring : goal.returns-in-Some-clause-ring
+returns-in-Some-clause-ring c = λ quiet.
+    let t = c.args.tree.now in
+    let tag = c.in-Some.ensures.some.1 in
+    subst (λ g. c.access_at.new.tree.visits ≤ t.visits + ring_size (links (eager_with t.root t.size t.nodes).nodes) g * pieces t.nodes c.args.span) tag
+    (c.access_at.ensures.ring (subst (λ g. IsQuiet t g c.args.span c.args.kind) (sym tag) quiet))

@@ -13,6 +13,8 @@ use Rattle.lazy_access.specs.declared.check.Found.{Found}
 use Rattle.lazy_access.specs.Requests.{violation_in}
 use Rattle.lazy_access.proofs.Accessing.{access-tie, quiet-after, node-there}
 use Rattle.lazy_access.proofs.Joining.{joined-none}
+use Rattle.lazy_access.proofs.Ringing.{ring-bound}
+use Rattle.lazy_tree.specs.Ring.{pieces}
 use Rattle.lazy_access.proofs.accesses.access_at.Goals as goal
 
 -- the violation names the node by the same tag before and after
@@ -68,3 +70,8 @@ adds-of before mid span (Some f) same done = λ j s h. inl (subst (λ (ns : List
 
 pub returns-clause-adds : goal.returns-clause-adds
 returns-clause-adds c = adds-of c.args.tree.now.nodes c.visit-found.new.tree.nodes c.args.span c.visit-found.result c.visit-found.ensures.denied (λ none. (c.visit-found.ensures.done none).adds)
+
+pub returns-clause-ring : goal.returns-clause-ring
+returns-clause-ring c = λ quiet.
+    let t = c.args.tree.now in
+    ring-bound t.root t.size t.nodes c.args.x (node_at t.nodes c.args.x).tag (pieces t.nodes c.args.span) t.visits c.visit-found.new.tree.visits c.soundness.ensures.sound c.requires.node refl (c.visit-found.ensures.ring refl quiet.still)
