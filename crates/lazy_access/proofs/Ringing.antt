@@ -1,28 +1,38 @@
 -- The nodes that a walk meets where an access changes nothing: the ring of its node, each at the pieces of
 -- the span.
-use Rattle.std.proofs.Common.{◌≡◌, ◌≢◌, ◌⊎◌, ℕ, zero, suc, ◌+◌, ◌-◌, ◌*◌, ◌<◌, ◌≤◌, ◌||◌, ◌&&◌, nat_lt, Bool, true, false, eqb, eq-eqb, List, [], ◌∷◌, length, filter, get_or, Option, Some, None, refl, sym, ap, subst, ◌∙◌, arith, inl, inr}
+use Rattle.std.proofs.Common.{◌≡◌, ◌≢◌, ◌⊎◌, ℕ, zero, suc, ◌+◌, ◌-◌, ◌*◌, ◌<◌, ◌≤◌, ◌||◌, ◌&&◌, nat_lt, Bool, true, false, eqb, eq-eqb, List, [], ◌∷◌, length, filter, replicate, get_or, MatchOption, IfSome, Option, Some, None, Result, Ok, Err, OnOk, OnErr, refl, sym, ap, subst, ◌∙◌, arith, inl, inr}
 use Rattle.std.proofs.lemmas.Bool.{cases_lt, cases_eq, ne_eqb}
 use Rattle.std.proofs.lemmas.Bool.Decides.{nat_tests}
 use Rattle.std.proofs.Math.Nat.{mul-le-mul_right, add-mul}
 use Rattle.std.specs.Option.{option_map}
+use Rattle.std.proofs.lemmas.List.{length-set, length-replicate, get_or-replicate}
 use Rattle.bsan_ids.specs.declared.numbers.Tag.{Tag}
 use Rattle.bsan_ids.specs.declared.numbers.Span.{Span}
 use Rattle.perm_table.specs.declared.Kind.{Kind}
-use Rattle.range_map.specs.Ranges.{has_start}
-use Rattle.eager_tree.specs.Tree.{Tree, Links, links, is_on_path}
+use Rattle.range_map.specs.Ranges.{Ranges, has_start}
+use Rattle.eager_tree.specs.Tree.{Tree, links, is_node, is_on_path}
 use Rattle.lazy_tree.specs.declared.tree.Node.{Node}
 use Rattle.lazy_tree.specs.Order.{after_among}
-use Rattle.lazy_tree.specs.Quiet.{IsQuietSlot, IsQuietNode}
+use Rattle.lazy_tree.specs.Quiet.{IsQuietSlot, IsQuietNode, IsQuiet, KeepsQuiet, KeepsCuts}
+use Rattle.lazy_tree.specs.Shape.{Shape}
+use Rattle.lazy_tree.specs.declared.slot.Slot.{Slot}
+use Rattle.perm_table.specs.declared.Guard.{Guard}
+use Rattle.perm_table.specs.declared.Guard.TheVariants.{Free}
+use Rattle.perm_table.specs.declared.Kind.TheVariants.{Read, Write}
+use Rattle.perm_table.specs.declared.RetagKind.{RetagKind}
 use Rattle.lazy_tree.specs.Ring.{count, is_in_ring, ring_size, is_cut, pieces}
-use Rattle.lazy_tree.specs.Skip.{node_at, no_node, slot_at, bool_at, run_after, above, last_of, need, rank, IsLinked, IsSound}
-use Rattle.lazy_tree.specs.Stands.{eager_nodes, eager_with}
-use Rattle.lazy_tree.proofs.Counting.{cut-at, cut-of, count-split, count-first, count-within, count-more, count-list}
+use Rattle.lazy_tree.specs.Skip.{node_at, no_node, slot_at, no_slot, root_slot, root_node, with_free, with_child, IsPlanted, bool_at, run_after, above, last_of, need, rank, IsLinked, IsSound}
+use Rattle.lazy_tree.specs.Stands.{eager_nodes, eager_with, eager_of}
+use Rattle.lazy_tree.proofs.Counting.{IsCutOf, cut-at, cut-of, count-split, count-first, count-within, count-more, count-list}
 use Rattle.lazy_access.specs.Walk.{Stands, place_of, IsPath, IsCovered, IsQuietAll, in_ring, ring_of}
-use Rattle.lazy_access.specs.Change.{AddsStarts}
-use Rattle.lazy_access.specs.Requests.{local_in}
+use Rattle.lazy_access.specs.Change.{AddsStarts, IsRoomier}
+use Rattle.lazy_access.specs.Requests.{local_in, IsChild}
 use Rattle.lazy_access.proofs.Places.{place_at, stands-itself, stands-up, stands-down, stands-through, place-one, next-place}
 use Rattle.lazy_access.proofs.Changing.{next_start-cases}
-use Rattle.lazy_access.proofs.Ties.{length-links, link_at, eager_with-some}
+use Rattle.lazy_access.proofs.Ties.{length-links, link_at, eager_with-some, eager-stands}
+use Rattle.lazy_access.proofs.Accessing.{links-eager, root-alone}
+use Rattle.lazy_tree.proofs.SkipLemmas.{part-kept}
+use Rattle.lazy_tree.proofs.Adding.{sound-root, old-part, child-at, length-with_child}
 
 or-left : (a b : Bool) → a ≡ true → (a || b) ≡ true
 or-left true b e = refl
@@ -307,3 +317,138 @@ cuts-added before after span s count adds e =
       | inl old ↦ inl (cut-at before cut.0 s (let w = cut.1.within in omega (arith, w, count)) cut.1.past old)
       | inr new ↦ inr new
     ]
+
+-- a cut is no first byte
+pub cut-past : (nodes : List Node) (s : ℕ) → is_cut nodes s ≡ true → 1 ≤ s
+cut-past nodes s e = (let cut = cut-of nodes s e in elim (cases_eq s 0) [ inl zero_s ↦ absurd (cut.1.past zero_s) | inr some ↦ omega (arith, some) ])
+
+-- a run ends at a cut, if the bytes go on
+pub run-cut : (size : ℕ) (nodes : List Node) (i at end : ℕ) → IsSound size nodes → i < length nodes → end ≡ run_after nodes i at → end < size → at < end → is_cut nodes end ≡ true
+run-cut size nodes i at end h lt is within some =
+    elim (next_start-cases (length (node_at nodes i).runs.bytes) at (node_at nodes i).runs.starts) [
+      | inl whole ↦ absurd (let s = h.sizes i lt in omega (arith, within, is, whole, s))
+      | inr begins ↦ cut-at nodes i end lt (λ e. omega (arith, e, some)) (subst (λ k. has_start k (node_at nodes i).runs.starts ≡ true) (sym is) begins)
+    ]
+
+-- the same run starts make the same cuts
+pub cut-starts : (before after : List Node) (s : ℕ) → length after ≡ length before → ((j : ℕ) → (node_at after j).runs.starts ≡ (node_at before j).runs.starts) → is_cut after s ≡ true → is_cut before s ≡ true
+cut-starts before after s count same e =
+    let cut = cut-of after s e in
+    cut-at before cut.0 s (let w = cut.1.within in omega (arith, w, count)) cut.1.past (subst (λ (ss : List ℕ). has_start s ss ≡ true) (same cut.0) cut.1.begins)
+
+pub cut-freed : (nodes : List Node) (x s : ℕ) → x < length nodes → is_cut (with_free nodes x) s ≡ true → is_cut nodes s ≡ true
+cut-freed nodes x s lt e =
+    let node : Node = record (node_at nodes x) { guard = Free } in
+    cut-starts nodes (with_free nodes x) s (length-set nodes x node) (λ j. part-kept (λ (n : Node). n.runs.starts) nodes x j node lt refl) e
+
+-- a new child adds the cuts of its own runs
+pub cut-child : (size : ℕ) (span : Span) (kind : RetagKind) (guard : Guard) (now after : List Node) (p s : ℕ) (tag : Tag) (made : Option (Ranges Slot)) → p < length now → MatchOption made ⊥ (IsChild size span kind guard) → IfSome made (λ runs. after ≡ with_child now p tag guard runs) → is_cut after s ≡ true → (is_cut now s ≡ true) ⊎ ((s ≡ span.start) ⊎ (s ≡ span.start + span.len))
+cut-child size span kind guard now after p s tag None lt child made e = absurd child
+cut-child size span kind guard now after p s tag (Some runs) lt child made e =
+    let cut = cut-of (with_child now p tag guard runs) s (subst (λ (ns : List Node). is_cut ns s ≡ true) made e) in
+    elim (cases_lt cut.0 (length now)) [
+      | inl old ↦ inl (cut-at now cut.0 s old cut.1.past (subst (λ (ss : List ℕ). has_start s ss ≡ true) (old-part (λ (n : Node). n.runs.starts) now p tag guard runs cut.0 lt old refl) cut.1.begins))
+      | inr more ↦
+          let last : cut.0 ≡ length now = (let w = cut.1.within in omega (arith, w, more, length-with_child now p tag guard runs)) in
+          elim (child.starts s (subst (λ (ss : List ℕ). has_start s ss ≡ true) (ap (λ (n : Node). n.runs.starts) (child-at now p tag guard runs cut.0 last)) cut.1.begins)) [
+            | inl first ↦ absurd (cut.1.past first)
+            | inr ends ↦ inr ends
+          ]
+    ]
+
+same-bools : (a b : Bool) → (a ≡ true → b ≡ true) → (b ≡ true → a ≡ true) → a ≡ b
+same-bools true b to from = sym (to refl)
+same-bools false true to from = from refl
+same-bools false false to from = refl
+
+-- more room leaves the cuts
+pub cuts-roomier : (before now : List Node) (s : ℕ) → IsRoomier before now → is_cut now s ≡ is_cut before s
+cuts-roomier before now s r =
+    same-bools (is_cut now s) (is_cut before s) (cut-starts before now s r.links.count r.starts) (cut-starts now before s (sym r.links.count) (λ j. sym (r.starts j)))
+
+-- and what was quiet
+pub quiet-roomier : (t u : Shape) → u.root ≡ t.root → u.size ≡ t.size → eager_of u ≡ eager_of t → IsRoomier t.nodes u.nodes → KeepsQuiet t u
+quiet-roomier t u root size eager r tag span kind q = record {
+  node = subst (λ (e : Tree). is_node e tag ≡ true) (sym eager) q.node;
+  within = (let w = q.within in omega (arith, w, size));
+  still = λ i lt b from to.
+      let low : i < length t.nodes = (let c = r.links.count in omega (arith, lt, c)) in
+      let flag : is_on_path (links (eager_nodes t.nodes)) tag (node_at t.nodes i).tag ≡ is_on_path (links (eager_nodes u.nodes)) tag (node_at u.nodes i).tag =
+      ap (is_on_path (links (eager_nodes t.nodes)) tag) (sym (r.links.tag i)) ∙ ap (λ ls. is_on_path ls tag (node_at u.nodes i).tag) (sym (links-eager t.nodes u.nodes r.links)) in
+      subst (λ (l : Bool). IsQuietSlot (node_at u.nodes i).guard l kind (slot_at u.nodes i b)) flag
+      (subst (λ (g : Guard). IsQuietSlot g (is_on_path (links (eager_nodes t.nodes)) tag (node_at t.nodes i).tag) kind (slot_at u.nodes i b)) (sym (r.guard i))
+      (subst (λ (l : List Slot). IsQuietSlot (node_at t.nodes i).guard (is_on_path (links (eager_nodes t.nodes)) tag (node_at t.nodes i).tag) kind (get_or l b no_slot)) (sym (r.bytes i)) (q.still i low b from to)));
+}
+
+-- the root alone, stored or not
+root-quiet : (kind : Kind) → IsQuietSlot Free true kind root_slot
+root-quiet Read = (refl, refl)
+root-quiet Write = (refl, refl)
+
+stored-quiet : (root : Tag) (size : ℕ) (runs : Ranges Slot) (kind : Kind) (span : Span) → runs.bytes ≡ replicate size root_slot → span.start + span.len ≤ size → (i : ℕ) → i < length (root_node root runs ∷ []) → IsQuietNode (root_node root runs ∷ []) (λ j. is_on_path (links (eager_nodes (root_node root runs ∷ []))) root (node_at (root_node root runs ∷ []) j).tag) kind span i
+stored-quiet root size runs kind span bytes within i lt b from to =
+    let h : IsSound size (root_node root runs ∷ []) = sound-root root size runs (ap length bytes ∙ length-replicate size root_slot) (λ b lt. ap (λ (s : Slot). rank s.level) (ap (λ (l : List Slot). get_or l b no_slot) bytes ∙ get_or-replicate size b root_slot no_slot lt)) in
+    let here : i ≡ 0 = omega (arith, lt) in
+    let on : is_on_path (links (eager_nodes (root_node root runs ∷ []))) root root ≡ true = eager-stands size (root_node root runs ∷ []) 0 0 h (omega arith) (omega arith) (stands-itself (root_node root runs ∷ []) 0 h.linked (omega arith)) in
+    let slot : get_or runs.bytes b no_slot ≡ root_slot = ap (λ (l : List Slot). get_or l b no_slot) bytes ∙ get_or-replicate size b root_slot no_slot (omega (arith, to, within)) in
+    subst (λ k. IsQuietSlot (node_at (root_node root runs ∷ []) k).guard (is_on_path (links (eager_nodes (root_node root runs ∷ []))) root (node_at (root_node root runs ∷ []) k).tag) kind (slot_at (root_node root runs ∷ []) k b)) (sym here)
+    (subst (λ (l : Bool). IsQuietSlot Free l kind (get_or runs.bytes b no_slot)) (sym on) (subst (IsQuietSlot Free true kind) (sym slot) (root-quiet kind)))
+
+pub quiet-planted : (t u : Shape) → t.nodes ≡ [] → u.root ≡ t.root → u.size ≡ t.size → eager_of u ≡ eager_of t → IsPlanted t.root t.size u.nodes → KeepsQuiet t u
+quiet-planted t u none root size eager planted tag span kind q =
+    let alone = root-alone t.root t.size t.nodes tag q.node (λ i lt. absurd (let z : length t.nodes ≡ 0 = ap length none in omega (arith, lt, z))) in
+    record {
+      node = subst (λ (e : Tree). is_node e tag ≡ true) (sym eager) q.node;
+      within = (let w = q.within in omega (arith, w, size));
+      still = λ i lt.
+          subst (λ (g : Tag). IsQuietNode u.nodes (λ j. is_on_path (links (eager_nodes u.nodes)) g (node_at u.nodes j).tag) kind span i) (sym alone.1)
+          (subst (λ (ns : List Node). IsQuietNode ns (λ j. is_on_path (links (eager_nodes ns)) t.root (node_at ns j).tag) kind span i) (sym planted.alone)
+          (stored-quiet t.root t.size (node_at u.nodes 0).runs kind span planted.bytes q.within i (let l : length u.nodes ≡ 1 = ap length planted.alone in omega (arith, lt, l))));
+    }
+
+pub cuts-planted : (t u : Shape) → t.nodes ≡ [] → IsPlanted t.root t.size u.nodes → KeepsCuts t u
+cuts-planted t u none planted s =
+    same-bools (is_cut u.nodes s) (is_cut t.nodes s)
+    (λ e. absurd (no-cut s (cut-of (root_node t.root (node_at u.nodes 0).runs ∷ []) s (subst (λ (ns : List Node). is_cut ns s ≡ true) planted.alone e))))
+    (λ e. absurd (let cut = cut-of t.nodes s e in let w = cut.1.within in let z : length t.nodes ≡ 0 = ap length none in omega (arith, w, z)))
+  where
+    false-true : false ≡ true → ⊥
+    false-true e = cc
+
+    only-first : (s : ℕ) → has_start s (0 ∷ []) ≡ true → s ≡ 0
+    only-first s e = elim (cases_eq 0 s) [ inl zero_s ↦ sym zero_s | inr other ↦ absurd (false-true (sym (rw (ne_eqb 0 s other) refl) ∙ e)) ]
+
+    no-cut : (s : ℕ) → (i : ℕ) × IsCutOf (root_node t.root (node_at u.nodes 0).runs ∷ []) s i → ⊥
+    no-cut s cut =
+        let here : cut.0 ≡ 0 = (let w = cut.1.within in omega (arith, w)) in
+        let begins : has_start s (node_at u.nodes 0).runs.starts ≡ true = subst (λ k. has_start s (node_at (root_node t.root (node_at u.nodes 0).runs ∷ []) k).runs.starts ≡ true) here cut.1.begins in
+        let first : has_start s (0 ∷ []) ≡ true = subst (λ (ss : List ℕ). has_start s ss ≡ true) planted.starts begins in
+        cut.1.past (only-first s first)
+
+-- the same nodes
+pub quiet-same : (t u : Shape) → u.root ≡ t.root → u.size ≡ t.size → u.nodes ≡ t.nodes → KeepsQuiet t u
+quiet-same t u root size nodes tag span kind q = record {
+  node = subst (λ (ns : List Node). is_node (eager_with u.root u.size ns) tag ≡ true) (sym nodes) (subst (λ s. is_node (eager_with u.root s t.nodes) tag ≡ true) (sym size) (subst (λ (r : Tag). is_node (eager_with r t.size t.nodes) tag ≡ true) (sym root) q.node));
+  within = (let w = q.within in omega (arith, w, size));
+  still = subst (λ (ns : List Node). (i : ℕ) → i < length ns → IsQuietNode ns (λ j. is_on_path (links (eager_nodes ns)) tag (node_at ns j).tag) kind span i) (sym nodes) q.still;
+}
+
+-- the same with more room
+pub quiet-there : (nodes now : List Node) (marks : List Bool) (kind : Kind) (span : Span) (at : ℕ) → IsRoomier nodes now → get_or marks at false ≡ bool_at marks at → IsQuietNode nodes (bool_at marks) kind span at → IsQuietNode now (λ _. get_or marks at false) kind span at
+quiet-there nodes now marks kind span at r idx h b from to =
+    subst (λ (l : Bool). IsQuietSlot (node_at now at).guard l kind (slot_at now at b)) (sym idx)
+    (subst (λ (g : Guard). IsQuietSlot g (bool_at marks at) kind (slot_at now at b)) (sym (r.guard at))
+    (subst (λ (l : List Slot). IsQuietSlot (node_at nodes at).guard (bool_at marks at) kind (get_or l b no_slot)) (sym (r.bytes at)) (h b from to)))
+
+pub covered-roomier : (nodes now : List Node) (kind : Kind) (span : Span) (i : ℕ) → IsRoomier nodes now → IsCovered nodes kind span i → IsCovered now kind span i
+covered-roomier nodes now kind span i r covers b from to = subst (λ (l : List Slot). need kind ≤ rank (get_or l b no_slot).level) (sym (r.bytes i)) (covers b from to)
+
+pub pieces-roomier : (before now : List Node) (span : Span) → IsRoomier before now → pieces now span ≤ pieces before span
+unfolding pieces
+pieces-roomier before now span r =
+    let less = count-within (is_cut now) (is_cut before) (span.start + 1) (span.len - 1) (λ s low high e. sym (cuts-roomier before now s r) ∙ e) in omega (arith, less)
+
+-- stored or not, by the answer
+pub root-keeps : {A E : Type 0} (r : Result A E) (t u : Shape) → t.nodes ≡ [] → u.root ≡ t.root → u.size ≡ t.size → eager_of u ≡ eager_of t → OnOk r (IsPlanted t.root t.size u.nodes) → OnErr r (u.nodes ≡ t.nodes) → KeepsQuiet t u × KeepsCuts t u
+root-keeps (Ok a) t u none root size eager ok err = (quiet-planted t u none root size eager ok, cuts-planted t u none ok)
+root-keeps (Err x) t u none root size eager ok err = (quiet-same t u root size err, λ s. ap (λ (ns : List Node). is_cut ns s) err)

@@ -1,11 +1,15 @@
 -- What makes a tree ready for a request.
-use Rattle.std.specs.Prelude.{ℕ, ◌+◌, ◌<◌, ◌≤◌, ◌≡◌, true, length, MatchOption}
+use Rattle.std.specs.Prelude.{ℕ, ◌+◌, ◌*◌, ◌<◌, ◌≤◌, ◌≡◌, true, length, MatchOption}
 use Rattle.bsan_ids.specs.declared.numbers.Tag.{Tag}
 use Rattle.bsan_ids.specs.declared.numbers.Span.{Span}
 use Rattle.perm_table.specs.declared.Kind.{Kind}
 use Rattle.perm_table.specs.declared.Kind.TheVariants.{Read}
 use Rattle.perm_table.specs.declared.Guard.{Guard}
 use Rattle.perm_table.specs.declared.RetagKind.{RetagKind}
+use Rattle.eager_tree.specs.Tree.{links}
+use Rattle.lazy_tree.specs.Quiet.{IsQuiet}
+use Rattle.lazy_tree.specs.Ring.{ring_size, pieces}
+use Rattle.lazy_tree.specs.Stands.{eager_of}
 use Rattle.lazy_tree.specs.Shape.{Shape}
 use Rattle.lazy_tree.specs.Skip.{node_at}
 use Rattle.lazy_access.specs.declared.request.TreeRequest.{TreeRequest}
@@ -43,3 +47,10 @@ Fits size (Access tag span kind) = (1 ≤ span.len) × (span.start + span.len �
 Fits size (Retag parent span kind guard) = (1 ≤ span.len) × (span.start + span.len ≤ size)
 Fits size (EndProtector tag) = Unit {0}
 Fits size (FreeAll tag) = Unit {0}
+
+-- where the request is an access that changes nothing, the counter rises by no more than ring times pieces
+abbrev pub IsWithinRing : Shape → Shape → TreeRequest → Type 0
+IsWithinRing t u (Access tag span kind) = IsQuiet t tag span kind → u.visits ≤ t.visits + ring_size (links (eager_of t).nodes) tag * pieces t.nodes span
+IsWithinRing t u (Retag parent span kind guard) = Unit {0}
+IsWithinRing t u (EndProtector tag) = Unit {0}
+IsWithinRing t u (FreeAll tag) = Unit {0}

@@ -1,9 +1,12 @@
 //! The memory for a step, taken before it.
-ghost use Rattle.std.specs.Prelude.{◌≡◌, ℕ, ◌+◌, ◌<◌, ◌≤◌, length, IsTrue, IsFalse, OnOk, MatchOption};
+ghost use Rattle.std.specs.Prelude.{◌≡◌, ℕ, ◌+◌, ◌*◌, ◌<◌, ◌≤◌, length, IsTrue, IsFalse, OnOk, MatchOption};
+ghost use Rattle.eager_tree.specs.Tree.{links};
+ghost use Rattle.lazy_tree.specs.Quiet.{IsQuiet, KeepsQuiet, KeepsCuts};
+ghost use Rattle.lazy_tree.specs.Ring.{ring_size, pieces};
 ghost use Rattle.lazy_tree.specs.Stands.{eager_of};
 ghost use Rattle.lazy_access.specs.Change.{IsRoomier};
 ghost use Rattle.lazy_access.specs.Requests.{IsChild};
-ghost use Rattle.lazy_access.specs.Ready.{IsReadyToAccess, IsReadyToRetag, IsReadyToEnd, IsReadyFor, Fits};
+ghost use Rattle.lazy_access.specs.Ready.{IsReadyToAccess, IsReadyToRetag, IsReadyToEnd, IsReadyFor, IsWithinRing, Fits};
 
 use crate::request::TreeRequest;
 use crate::reserve::{reserve_cuts, reserve_ends};
@@ -18,7 +21,10 @@ fn prepare_access(tree: &mut LazyTree, tag: Tag, span: Span, kind: Kind) -> Resu
     ensures same { eager_of tree.new ≡ eager_of tree.old }
     ensures nodes { IsRoomier tree.old.nodes tree.new.nodes }
     ensures tree { tree.new ≡ record tree.old { nodes = tree.new.nodes; visits = tree.new.visits; marks = tree.new.marks; list_room = tree.new.list_room } }
+    ensures quiet { KeepsQuiet tree.old tree.new }
+    ensures cuts { KeepsCuts tree.old tree.new }
     ensures rises { tree.old.visits ≤ tree.new.visits }
+    ensures ring { IsQuiet tree.old tag span kind → tree.new.visits ≤ tree.old.visits + ring_size (links (eager_of tree.old).nodes) tag * pieces tree.old.nodes span }
 {
     tree.reserve_walk()?;
     tree.soundness();
@@ -34,6 +40,8 @@ fn store_root(tree: &mut LazyTree) -> Result<(), NoMemory>
     ensures same { eager_of tree.new ≡ eager_of tree.old }
     ensures size { tree.new.size ≡ tree.old.size }
     ensures visits { tree.new.visits ≡ tree.old.visits }
+    ensures quiet { KeepsQuiet tree.old tree.new }
+    ensures cuts { KeepsCuts tree.old tree.new }
 {
     if tree.len() == 0 {
         tree.plant()
@@ -54,6 +62,8 @@ fn make_child(
     ensures child { OnOk result (MatchOption tree.new.ready ⊥ (IsChild tree.old.size span kind guard)) }
     ensures spare { OnOk result (1 ≤ tree.new.spare) }
     ensures tree { tree.new ≡ record tree.old { spare = tree.new.spare; ready = tree.new.ready } }
+    ensures quiet { KeepsQuiet tree.old tree.new }
+    ensures cuts { KeepsCuts tree.old tree.new }
 {
     let perm = start(kind, guard);
     let level = Level::of(perm, guard);
@@ -84,6 +94,8 @@ fn prepare_retag(
     ensures same { eager_of tree.new ≡ eager_of tree.old }
     ensures size { tree.new.size ≡ tree.old.size }
     ensures rises { tree.old.visits ≤ tree.new.visits }
+    ensures quiet { KeepsQuiet tree.old tree.new }
+    ensures cuts { KeepsCuts tree.old tree.new }
 {
     store_root(tree)?;
     make_child(tree, span, kind, guard)?;
@@ -96,6 +108,8 @@ fn prepare_end(tree: &mut LazyTree, tag: Tag) -> Result<(), NoMemory>
     ensures same { eager_of tree.new ≡ eager_of tree.old }
     ensures nodes { IsRoomier tree.old.nodes tree.new.nodes }
     ensures tree { tree.new ≡ record tree.old { nodes = tree.new.nodes; visits = tree.new.visits; marks = tree.new.marks; list_room = tree.new.list_room } }
+    ensures quiet { KeepsQuiet tree.old tree.new }
+    ensures cuts { KeepsCuts tree.old tree.new }
     ensures rises { tree.old.visits ≤ tree.new.visits }
 {
     tree.reserve_walk()?;
@@ -116,7 +130,7 @@ fn fits(tree: &LazyTree, span: Span) -> bool
 }
 
 /// Takes all memory for a request, whose span has a byte and lies in the allocation. The tree stands
-/// for the same eager tree, without memory too.
+/// for the same eager tree, without memory too, and an access that changes nothing still does so.
 ///
 /// # Errors
 ///
@@ -126,6 +140,9 @@ pub fn prepare(tree: &mut LazyTree, request: &TreeRequest) -> Result<(), NoMemor
     ensures same { eager_of tree.new ≡ eager_of tree.old }
     ensures size { tree.new.size ≡ tree.old.size }
     ensures rises { tree.old.visits ≤ tree.new.visits }
+    ensures quiet { KeepsQuiet tree.old tree.new }
+    ensures cuts { KeepsCuts tree.old tree.new }
+    ensures ring { IsWithinRing tree.old tree.new request.now }
 {
     match *request {
         TreeRequest::Access { tag, span, kind } if fits(tree, span) => {

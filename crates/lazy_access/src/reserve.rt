@@ -1,9 +1,10 @@
 //! Room made in the nodes that a step may change.
-ghost use Rattle.std.specs.Prelude.{◌≡◌, ◌⊎◌, ℕ, ◌+◌, ◌*◌, ◌<◌, ◌≤◌, length, IsFalse, OnOk, false};
+ghost use Rattle.std.specs.Prelude.{◌≡◌, ◌⊎◌, ℕ, ◌+◌, ◌*◌, ◌<◌, ◌≤◌, length, IsTrue, IsFalse, OnOk, false};
 ghost use Rattle.lazy_tree.specs.Skip.{node_at, bool_at, run_after};
-ghost use Rattle.lazy_access.specs.Walk.{IsPath, IsMet, IsCovered};
+ghost use Rattle.lazy_tree.specs.Ring.{pieces};
+ghost use Rattle.lazy_access.specs.Walk.{IsPath, IsMet, IsCovered, IsQuietAll, ring_of};
 ghost use Rattle.lazy_access.specs.Change.{IsRoomier};
-ghost use Rattle.lazy_access.specs.Requests.{HasWalk, HasRoom};
+ghost use Rattle.lazy_access.specs.Requests.{local_in, HasWalk, HasRoom};
 ghost use Rattle.lazy_access.specs.Ends.{HasEndRoomOn, HasEndRoom, runs_from};
 
 use crate::check::see_node;
@@ -50,6 +51,7 @@ fn reserve_marked(
     ensures tree { tree.new ≡ record tree.old { nodes = tree.new.nodes; visits = tree.new.visits } }
     ensures rises { tree.old.visits ≤ tree.new.visits }
     ensures same { IsRoomier tree.old.nodes tree.new.nodes }
+    ensures ring { IsTrue below → IsQuietAll tree.old.nodes (bool_at path.now) kind span → tree.new.visits ≤ tree.old.visits + ring_of tree.old.nodes (bool_at path.now) * pieces tree.old.nodes span }
     ensures room { OnOk result ((i : ℕ) → IsMet tree.old.nodes x below (length tree.old.nodes) i → (runs ≤ (node_at tree.new.nodes i).runs.spare) ⊎ (IsFalse (bool_at path.now i) × IsCovered tree.old.nodes kind span i)) }
 {
     tree.soundness();
@@ -79,6 +81,7 @@ pub fn reserve_cuts(
     ensures tree { tree.new ≡ record tree.old { nodes = tree.new.nodes; visits = tree.new.visits } }
     ensures rises { tree.old.visits ≤ tree.new.visits }
     ensures same { IsRoomier tree.old.nodes tree.new.nodes }
+    ensures ring { IsTrue below → IsQuietAll tree.old.nodes (local_in tree.old.nodes x) kind span → tree.new.visits ≤ tree.old.visits + ring_of tree.old.nodes (local_in tree.old.nodes x) * pieces tree.old.nodes span }
     ensures room { OnOk result (HasRoom tree.new.nodes x below span kind runs) }
 {
     tree.soundness();

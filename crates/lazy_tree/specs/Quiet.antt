@@ -13,6 +13,7 @@ use Rattle.lazy_tree.specs.declared.slot.Level.{Level}
 use Rattle.lazy_tree.specs.declared.slot.Level.TheVariants.{Nothing}
 use Rattle.lazy_tree.specs.declared.slot.Slot.{Slot}
 use Rattle.lazy_tree.specs.declared.tree.Node.{Node}
+use Rattle.lazy_tree.specs.Ring.{is_cut}
 use Rattle.lazy_tree.specs.Shape.{Shape}
 use Rattle.lazy_tree.specs.Skip.{node_at, slot_at, need, rank}
 use Rattle.lazy_tree.specs.Stands.{eager_nodes, eager_of}
@@ -42,3 +43,11 @@ pub record IsQuiet (t : Shape) (tag : Tag) (span : Span) (kind : Kind) : Type 0 
   pub node : IsTrue (is_node (eager_of t) tag)
   pub within : span.start + span.len ≤ t.size
   pub still : (i : ℕ) → i < length t.nodes → IsQuietNode t.nodes (λ j. is_on_path (links (eager_nodes t.nodes)) tag (node_at t.nodes j).tag) kind span i
+
+-- what changes nothing in one tree changes nothing in the other
+abbrev pub KeepsQuiet : Shape → Shape → Type 0
+KeepsQuiet t u = (tag : Tag) (span : Span) (kind : Kind) → IsQuiet t tag span kind → IsQuiet u tag span kind
+
+-- the two trees have the same cuts
+abbrev pub KeepsCuts : Shape → Shape → Type 0
+KeepsCuts t u = (at : ℕ) → is_cut u.nodes at ≡ is_cut t.nodes at

@@ -1,4 +1,4 @@
-use Rattle.std.proofs.Common.{◌≡◌, ◌<◌, ◌≤◌, ℕ, Some, None, List, length, Option, refl, sym, ap, subst, ◌∙◌, arith}
+use Rattle.std.proofs.Common.{◌≡◌, ◌<◌, ◌≤◌, ℕ, true, Some, None, List, length, Option, refl, sym, ap, subst, ◌∙◌, arith}
 use Rattle.eager_tree.specs.declared.violation.Violation.{Violation}
 use Rattle.eager_tree.specs.Tree.{Tree}
 use Rattle.lazy_tree.specs.declared.tree.Node.{Node}
@@ -9,6 +9,8 @@ use Rattle.lazy_access.specs.declared.check.Found.{Found}
 use Rattle.lazy_access.specs.Requests.{violation_in}
 use Rattle.lazy_access.specs.Ends.{FindsEnd, NoEndDenial, IsEnded, HasEndRoom}
 use Rattle.lazy_access.proofs.Ended.{end-denied, end-clean}
+use Rattle.lazy_tree.specs.Ring.{is_cut}
+use Rattle.lazy_access.proofs.Ringing.{cut-freed}
 use Rattle.lazy_access.proofs.ends.end_at.Goals as goal
 
 pub end_runs-requires-clause-allowed : goal.end_runs-requires-clause-allowed
@@ -42,3 +44,15 @@ returns-in-None-clause-answer c =
     ∙ ap (λ s. (let p : Option Violation × Tree = (None, eager_with t.root s c.set_free.new.self.nodes) in p)) size
     ∙ end-clean t.root t.size t.nodes c.end_runs.new.tree.nodes c.set_free.new.self.nodes c.args.x c.soundness.ensures.sound (subst (λ s. IsSound s c.end_runs.new.tree.nodes) mid c.soundness-in-None.ensures.sound) c.requires.node found ended
     (ap (λ (s : Shape). s.nodes) c.set_free.ensures.tree)
+
+pub returns-in-Some-clause-cuts : goal.returns-in-Some-clause-cuts
+returns-in-Some-clause-cuts c = λ s lt e. subst (λ (t : Shape). is_cut t.nodes s ≡ true) c.end_denial.ensures.tree e
+
+pub returns-in-None-clause-cuts : goal.returns-in-None-clause-cuts
+returns-in-None-clause-cuts c = λ s lt e.
+    let t = c.args.tree.now in
+    let size : c.end_denial.new.tree.size ≡ t.size = ap (λ (s : Shape). s.size) c.end_denial.ensures.tree in
+    let same : c.end_denial.new.tree.nodes ≡ t.nodes = ap (λ (s : Shape). s.nodes) c.end_denial.ensures.tree in
+    let there : c.args.x < length c.end_runs.new.tree.nodes = (let n = c.end_runs.ensures.ended.links.count in omega (arith, n, c.requires.node, ap length same)) in
+    subst (λ (ns : List Node). is_cut ns s ≡ true) same
+    (c.end_runs.ensures.cuts s (omega (arith, lt, size)) (cut-freed c.end_runs.new.tree.nodes c.args.x s there (subst (λ (ns : List Node). is_cut ns s ≡ true) (ap (λ (s : Shape). s.nodes) c.set_free.ensures.tree) e)))

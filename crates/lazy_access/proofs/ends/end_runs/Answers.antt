@@ -1,4 +1,4 @@
-use Rattle.std.proofs.Common.{◌≡◌, ◌+◌, ◌-◌, ◌<◌, ◌≤◌, ℕ, false, List, length, refl, sym, ap, subst, ◌∙◌, arith}
+use Rattle.std.proofs.Common.{◌≡◌, ◌+◌, ◌-◌, ◌<◌, ◌≤◌, ℕ, true, false, List, length, refl, sym, ap, subst, ◌∙◌, arith, inl, inr}
 use Rattle.bsan_ids.specs.declared.numbers.Span.{Span}
 use Rattle.lazy_tree.specs.declared.tree.Node.{Node}
 use Rattle.lazy_tree.specs.Shape.{Shape}
@@ -6,6 +6,8 @@ use Rattle.lazy_tree.specs.Skip.{run_after, IsSound}
 use Rattle.lazy_access.specs.Change.{AddsStarts}
 use Rattle.lazy_access.specs.Ends.{NoEndDenial, HasEndRoomOn, IsEnded}
 use Rattle.lazy_access.proofs.Ending.{ended-none, ended-more, denies-back, room-here, room-more, runs-fewer, room-first}
+use Rattle.lazy_tree.specs.Ring.{is_cut}
+use Rattle.lazy_access.proofs.Ringing.{run-cut, cut-past, cuts-added}
 use Rattle.lazy_access.proofs.ends.end_runs.Goals as goal
 
 pub runs-init : goal.runs-init
@@ -15,6 +17,8 @@ runs-init c = record {
   within = omega arith;
   ended = ended-none c.args.tree.now.size c.args.tree.now.nodes c.args.x;
   left = room-first c.args.tree.now.size c.args.tree.now.nodes c.args.x c.requires.room;
+  begins = λ lt some. absurd (omega (arith, some));
+  cuts = λ s lt e. e;
 }
 
 pub end_run-requires-clause-allowed : goal.end_run-requires-clause-allowed
@@ -50,6 +54,16 @@ runs-preserved c =
       within = within;
       ended = ended-more c.args.tree.now.size nodes c.runs.tree.nodes c.end_run.new.tree.nodes c.args.x c.runs.at c.run_end-end.result c.requires.node within c.runs.invariant.ended ended c.run_end-end.ensures.after;
       left = room-more c.args.tree.now.size nodes c.runs.tree.nodes c.end_run.new.tree.nodes c.args.x c.runs.at c.run_end-end.result c.run_end-end.ensures.after fewer c.end_run.ensures.spare c.runs.invariant.left;
+      begins = λ lt some. c.runs.invariant.cuts c.run_end-end.result lt (run-cut c.args.tree.now.size c.runs.tree.nodes c.args.x c.runs.at c.run_end-end.result sound lt_now c.run_end-end.ensures.next lt c.run_end-end.ensures.after);
+      cuts = λ s lt e. elim (cuts-added c.runs.tree.nodes c.end_run.new.tree.nodes span s c.end_run.ensures.ended.links.count adds e) [
+        | inl old ↦ c.runs.invariant.cuts s lt old
+        | inr new ↦ elim new [
+          | inl start ↦ subst (λ k. is_cut nodes k ≡ true) (sym start) (c.runs.invariant.begins (omega (arith, start, lt)) (let past = cut-past c.end_run.new.tree.nodes s e in omega (arith, start, past)))
+          | inr stop ↦
+              let here : s ≡ c.run_end-end.result = omega (arith, stop, c.run_end-end.ensures.after) in
+              c.runs.invariant.cuts s lt (subst (λ k. is_cut c.runs.tree.nodes k ≡ true) (sym here) (run-cut c.args.tree.now.size c.runs.tree.nodes c.args.x c.runs.at c.run_end-end.result sound lt_now c.run_end-end.ensures.next (omega (arith, here, lt)) c.run_end-end.ensures.after))
+        ]
+      ];
     }
 
 pub returns-clause-ended : goal.returns-clause-ended

@@ -1,4 +1,4 @@
-use Rattle.std.proofs.Common.{◌≡◌, true, List, length, Option, Some, None, sym, ap, subst, ◌∙◌, arith}
+use Rattle.std.proofs.Common.{◌≡◌, true, List, length, Option, Some, None, sym, ap, subst, ◌∙◌, arith, inl, inr}
 use Rattle.bsan_ids.specs.declared.numbers.Tag.{Tag}
 use Rattle.perm_table.specs.declared.Kind.TheVariants.{Write}
 use Rattle.eager_tree.specs.declared.violation.Violation.{Violation}
@@ -16,6 +16,8 @@ use Rattle.lazy_access.specs.Requests.{local_in, violation_in}
 use Rattle.lazy_access.specs.Held.{FindsHeld}
 use Rattle.lazy_access.proofs.Accessing.{access-found, access-clean, left_by}
 use Rattle.lazy_access.proofs.Freeing.{whole, free-clean, free-denied, free-held}
+use Rattle.lazy_tree.specs.Ring.{is_cut}
+use Rattle.lazy_access.proofs.Ringing.{cuts-added, cut-past}
 use Rattle.lazy_access.proofs.frees.free_at.Goals as goal
 
 pub returns-in-None-clause-answer : goal.returns-in-None-clause-answer
@@ -72,3 +74,16 @@ returns-in-None-denial-clause-answer c =
           ∙ ap (λ (e : Tree). (let p : Option Violation × Tree = (Some (StrongFree h.offset (node_at t.nodes h.node).tag h.perm), e) in p)) eager
           ∙ free-held t.root t.size t.nodes (node_at t.nodes c.args.x).tag h (left_by t.root t.size t.nodes c.args.x Write (whole t.size)) c.soundness.ensures.sound (omega (arith, c.requires.node)) first
           (access-clean t.root t.size t.nodes c.args.x Write (whole t.size) c.soundness.ensures.sound c.requires.node clean)
+
+pub returns-in-None-clause-cuts : goal.returns-in-None-clause-cuts
+returns-in-None-clause-cuts c = λ s lt e.
+    let t = c.args.tree.now in
+    let held : c.first_held.new.tree.nodes ≡ t.nodes = ap (λ (s : Shape). s.nodes) c.first_held.ensures.tree in
+    subst (λ (ns : List Node). is_cut ns s ≡ true) held
+    (elim (cuts-added c.first_held.new.tree.nodes c.access_at.new.tree.nodes (whole c.size.result) s c.access_at.ensures.count c.access_at.ensures.adds e) [
+      | inl old ↦ old
+      | inr new ↦ elim new [
+        | inl start ↦ absurd (let past = cut-past c.access_at.new.tree.nodes s e in omega (arith, start, past))
+        | inr stop ↦ absurd (omega (arith, stop, lt, c.size.ensures))
+      ]
+    ])

@@ -1,10 +1,13 @@
-use Rattle.std.proofs.Common.{◌≡◌, length, Result, Ok, Err, OnOk, sym, ap, subst, ◌∙◌, arith}
+use Rattle.std.proofs.Common.{◌≡◌, List, length, Result, Ok, Err, OnOk, sym, ap, subst, ◌∙◌, arith}
+use Rattle.lazy_tree.specs.declared.tree.Node.{Node}
 use Rattle.lazy_tree.specs.Shape.{Shape}
 use Rattle.lazy_tree.specs.Skip.{IsSound}
 use Rattle.lazy_tree.specs.Stands.{eager_of}
 use Rattle.lazy_access.specs.Ends.{HasEndRoom}
 use Rattle.lazy_access.specs.Ready.{IsReadyToEnd}
 use Rattle.lazy_access.proofs.Reserving.{eager-roomier, ready-by, sound-roomier}
+use Rattle.lazy_access.specs.Change.{IsRoomier}
+use Rattle.lazy_access.proofs.Ringing.{quiet-roomier, cuts-roomier}
 use Rattle.lazy_access.proofs.readiness.prepare_end.Goals as goal
 
 on-ok : {A E : Type 0} (P Q : Type 0) (r : Result A E) → (P → Q) → OnOk r P → OnOk r Q
@@ -35,3 +38,15 @@ returns-in-Some-clause-same c =
     eager-roomier c.reserve_walk.new.self.root c.reserve_ends.new.tree.root c.reserve_walk.new.self.size c.reserve_ends.new.tree.size c.reserve_walk.new.self.nodes c.reserve_ends.new.tree.nodes
     (ap (λ (t : Shape). t.root) c.reserve_ends.ensures.tree) (ap (λ (t : Shape). t.size) c.reserve_ends.ensures.tree) (omega (arith, c.in-Some.ensures.some.0)) c.reserve_ends.ensures.same
     ∙ ap eager_of c.reserve_walk.ensures.tree
+
+-- the nodes have the room that they had, and more
+roomier : (c : goal.After-reserve_ends) → IsRoomier c.args.tree.now.nodes c.reserve_ends.new.tree.nodes
+roomier c = subst (λ (ns : List Node). IsRoomier ns c.reserve_ends.new.tree.nodes) (ap (λ (t : Shape). t.nodes) c.reserve_walk.ensures.tree) c.reserve_ends.ensures.same
+
+pub returns-in-Some-clause-quiet : goal.returns-in-Some-clause-quiet
+returns-in-Some-clause-quiet c =
+    quiet-roomier c.args.tree.now c.reserve_ends.new.tree (ap (λ (t : Shape). t.root) c.reserve_ends.ensures.tree ∙ ap (λ (t : Shape). t.root) c.reserve_walk.ensures.tree) (ap (λ (t : Shape). t.size) c.reserve_ends.ensures.tree ∙ ap (λ (t : Shape). t.size) c.reserve_walk.ensures.tree)
+    (returns-in-Some-clause-same c) (roomier c)
+
+pub returns-in-Some-clause-cuts : goal.returns-in-Some-clause-cuts
+returns-in-Some-clause-cuts c = λ s. cuts-roomier c.args.tree.now.nodes c.reserve_ends.new.tree.nodes s (roomier c)

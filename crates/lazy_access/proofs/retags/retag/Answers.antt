@@ -1,4 +1,4 @@
-use Rattle.std.proofs.Common.{◌≡◌, true, ◌<◌, length, Option, Some, None, MatchOption, IfSome, sym, ap, subst, ◌∙◌, arith}
+use Rattle.std.proofs.Common.{◌≡◌, true, ◌<◌, length, Option, Some, None, MatchOption, IfSome, sym, ap, subst, ◌∙◌, arith, inl, inr}
 use Rattle.range_map.specs.Ranges.{Ranges}
 use Rattle.perm_table.specs.declared.Perm.{Perm}
 use Rattle.perm_table.specs.declared.Kind.TheVariants.{Read}
@@ -14,6 +14,7 @@ use Rattle.lazy_access.specs.Requests.{local_in, IsChild}
 use Rattle.lazy_access.proofs.Accessing.{root-alone}
 use Rattle.lazy_access.proofs.Retagging.{retag-end, retag-denied, may-add-made, nodes-lowered, newest-stored}
 use Rattle.lazy_access.proofs.Reserving.{cuts-room}
+use Rattle.lazy_access.proofs.Ringing.{cuts-added, cut-starts, cut-child}
 use Rattle.lazy_access.proofs.retags.retag.Goals as goal
 
 pub returns-in_default : goal.returns-in_default
@@ -82,3 +83,18 @@ returns-clause-answer c =
 pub access_at-requires-clause-cuts : goal.access_at-requires-clause-cuts
 access_at-requires-clause-cuts c =
     cuts-room c.args.tree.now.size c.args.tree.now.nodes c.in-Some.x true c.args.span Read (c.requires.ready.access.cuts c.in-Some.x c.in-Some.ensures.some.0 c.in-Some.ensures.some.1)
+
+pub returns-in-Some-access_at-clause-cuts : goal.returns-in-Some-access_at-clause-cuts
+returns-in-Some-access_at-clause-cuts c = λ s e. cuts-added c.args.tree.now.nodes c.access_at.new.tree.nodes c.args.span s c.access_at.ensures.count c.access_at.ensures.adds e
+
+pub returns-clause-cuts : goal.returns-clause-cuts
+returns-clause-cuts c = λ s e.
+    let t = c.args.tree.now in
+    let ready : c.lower.new.tree.ready ≡ t.ready = ap (λ (s : Shape). s.ready) c.lower.ensures.tree ∙ ap (λ (s : Shape). s.ready) c.access_at.ensures.tree in
+    let lt : c.in-Some.x < length c.lower.new.tree.nodes = omega (arith, c.in-Some.ensures.some.0, c.access_at.ensures.count, c.lower.ensures.lowered.links.count) in
+    elim (cut-child t.size c.args.span c.args.kind c.args.guard c.lower.new.tree.nodes c.add.new.self.nodes c.in-Some.x s c.args.tag t.ready lt c.requires.ready.child
+    (subst (λ (o : Option (Ranges Slot)). IfSome o (λ runs. c.add.new.self.nodes ≡ with_child c.lower.new.tree.nodes c.in-Some.x c.args.tag c.args.guard runs)) ready c.add.ensures.nodes) e) [
+      | inl old ↦ cuts-added t.nodes c.access_at.new.tree.nodes c.args.span s c.access_at.ensures.count c.access_at.ensures.adds
+          (cut-starts c.access_at.new.tree.nodes c.lower.new.tree.nodes s c.lower.ensures.lowered.links.count c.lower.ensures.lowered.starts old)
+      | inr new ↦ inr new
+    ]
