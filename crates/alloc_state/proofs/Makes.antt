@@ -1,5 +1,5 @@
 -- An allocation is made exactly where one of its entries is a Make.
-use Rattle.std.proofs.Common.{◌≡◌, ℕ, ◌+◌, Bool, true, false, ◌||◌, List, [], ◌∷◌, Option, Some, None, refl, sym, ap, ◌∙◌, cond, count_by}
+use Rattle.std.proofs.Common.{is_some, ◌≡◌, ℕ, ◌+◌, Bool, true, false, ◌||◌, List, [], ◌∷◌, Option, Some, None, refl, sym, ap, ◌∙◌, cond, count_by}
 use Rattle.std.proofs.lemmas.Bool.{or_parts}
 use Rattle.std.proofs.lemmas.List.Recursion.{is_count_by}
 use Rattle.bsan_ids.specs.declared.numbers.Stamp.{Stamp}
@@ -10,7 +10,7 @@ use Rattle.history.specs.declared.entry.Request.TheVariants.{Make, Load, Store, 
 use Rattle.history.specs.Memory.{trap_in}
 use Rattle.history.specs.Objects.{Object, Made, unmade, answer, data_answer, data_unless}
 use Rattle.history.specs.Histories.{replay, is_make}
-use Rattle.alloc_state.specs.Prepared.{is_made_in, is_some_made}
+use Rattle.alloc_state.specs.Prepared.{is_made_in}
 use Rattle.alloc_state.specs.Log.{has_make}
 
 data_stays : (number : ℕ) (m : Made) (request : Request) (trap : Option Trap) → is_made_in (data_unless (record { number = number; made = Some m }) m request trap).object ≡ true
@@ -18,7 +18,7 @@ data_stays number m request (Some trap) = refl
 data_stays number m request None = refl
 
 -- a request that is no Make leaves what is made made, and nothing else
-stays : (number : ℕ) (made : Option Made) (request : Request) → is_made_in (data_answer (record { number = number; made = made }) made request).object ≡ is_some_made made
+stays : (number : ℕ) (made : Option Made) (request : Request) → is_made_in (data_answer (record { number = number; made = made }) made request).object ≡ is_some made
 stays number None request = refl
 stays number (Some m) request = data_stays number m request (trap_in m.memory request)
 
@@ -26,7 +26,7 @@ or_false : (b : Bool) → b ≡ (b || false)
 or_false true = refl
 or_false false = refl
 
-answer_makes : (number : ℕ) (made : Option Made) (request : Request) (stamp : Stamp) → is_made_in (answer (record { number = number; made = made }) request stamp).object ≡ (is_make request || is_some_made made)
+answer_makes : (number : ℕ) (made : Option Made) (request : Request) (stamp : Stamp) → is_made_in (answer (record { number = number; made = made }) request stamp).object ≡ (is_make request || is_some made)
 answer_makes number made (Make size place) stamp = refl
 answer_makes number None (Retag at len kind guard prov) stamp = refl
 answer_makes number (Some m) (Retag at len kind guard prov) stamp = refl

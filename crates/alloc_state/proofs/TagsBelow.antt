@@ -22,7 +22,7 @@ use Rattle.history.specs.declared.entry.Request.{Request}
 use Rattle.history.specs.declared.entry.Request.TheVariants.{Make, Load, Store, Modify, CmpXchg, CopyOut, CopyIn, Retag, EndProtector, Free, Print, Host, Spawn, Join}
 use Rattle.history.specs.declared.entry.Verdict.TheVariants.{Clean, Closed}
 use Rattle.history.specs.Memory.{trap_in, is_outside, span_of}
-use Rattle.history.specs.Objects.{Object, Made, Judged, answer, data_answer, data_unless, judged, judged_by, judged_through, node_through, step_of, step_on, violated, retag_judged, end_judged, through, kind_of}
+use Rattle.history.specs.Objects.{Object, Made, Judged, answer, data_answer, data_unless, judged, judged_by, judged_through, node_through, step_of, step_on, violated, retag_judged, end_judged, through, kind_of, reborrow}
 use Rattle.history.specs.Histories.{replay}
 use Rattle.alloc_state.specs.Prepared.{AreBelow}
 
@@ -98,7 +98,7 @@ data_stays : (number : ℕ) (made : Option Made) (request : Request) (bound : �
 data_stays number None request bound h = h
 data_stays number (Some m) request bound h = data_below number m request (trap_in m.memory request) bound h
 
-retag_below : (number : ℕ) (m : Made) (at len : ℕ) (kind : RetagKind) (guard : Guard) (prov : Option Prov) (stamp bound : ℕ) → stamp < bound → NodesBelow bound m.tree.nodes → NodesBelow bound (retag_judged number m (Retag at len kind guard prov) stamp).tree.nodes
+retag_below : (number : ℕ) (m : Made) (at len : ℕ) (kind : RetagKind) (guard : Guard) (prov : Option Prov) (stamp bound : ℕ) → stamp < bound → NodesBelow bound m.tree.nodes → NodesBelow bound (retag_judged number m (reborrow at len kind guard prov) stamp).tree.nodes
 retag_below number m at len kind guard prov stamp bound lt h =
     let span : Span = record { start = at; len = len } in
     let step : Tag → Option Violation × Tree = λ (x : Tag). retag m.tree x span kind guard (record { 0 = stamp }) in

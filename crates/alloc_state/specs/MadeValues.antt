@@ -3,6 +3,7 @@ use Rattle.std.specs.Prelude.{ℕ, ◌≡◌, ◌≤◌, Option, Some, None, Res
 use Rattle.bsan_ids.specs.declared.numbers.Tag.{Tag}
 use Rattle.bsan_ids.specs.declared.numbers.Frag.{Frag}
 use Rattle.ir_ast.specs.declared.types.Place.{Place}
+use Rattle.ir_ast.specs.Sizes.{most_size}
 use Rattle.history.specs.declared.entry.Verdict.{Verdict}
 use Rattle.history.specs.declared.entry.Reply.{Reply}
 use Rattle.history.specs.declared.entry.Plain.TheVariants.{Copied, Trapped}
@@ -21,7 +22,7 @@ pub record MadeValue : Type 0 where
 pub record IsMade (m : Made) : Type 0 where
   pub bytes : length m.memory.bytes ≡ m.tree.size
   pub frags : length m.shadow ≡ m.tree.size
-  pub short : m.tree.size ≤ 1048576
+  pub short : m.tree.size ≤ most_size
 
 -- an allocation as its Make leaves it, with this tag at its root
 abbrev pub new_made : ℕ → Place → Tag → Made

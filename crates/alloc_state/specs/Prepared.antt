@@ -1,5 +1,6 @@
 -- An allocation's object with the request for which memory was taken.
-use Rattle.std.specs.Prelude.{ℕ, ◌<◌, Option, Some, None, MatchOption, All, ◌≤◌, Bool, true, false, ◌*◌, length}
+use Rattle.std.specs.Prelude.{ℕ, ◌<◌, Option, is_some, MatchOption, All, ◌≤◌, Bool, true, false, ◌*◌, length}
+use Rattle.std.specs.Option.{option_map}
 use Rattle.history.specs.declared.entry.Request.{Request}
 use Rattle.history.specs.declared.entry.Request.TheVariants.{Store, Modify, CmpXchg, CopyOut, CopyIn, Retag}
 use Rattle.history.specs.Objects.{Object, Made}
@@ -14,17 +15,12 @@ abbrev pub AreBelow : ℕ → Object → Type 0
 AreBelow bound o = MatchOption o.made (Unit {0}) (λ m. All (λ n. n.tag.0 < bound) m.tree.nodes)
 
 -- whether an allocation is made
-abbrev pub is_some_made : Option Made → Bool
-is_some_made None = false
-is_some_made (Some m) = true
-
 abbrev pub is_made_in : Object → Bool
-is_made_in o = is_some_made o.made
+is_made_in o = is_some o.made
 
 -- the object for which the fields of a state stand
 abbrev pub made_in : Option MadeValue → Option Made
-made_in None = None
-made_in (Some v) = Some v.made
+made_in made = option_map (λ v. v.made) made
 
 abbrev pub object_in : ℕ → Option MadeValue → Object
 object_in number made = record { number = number; made = made_in made }

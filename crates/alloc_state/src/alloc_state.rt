@@ -55,7 +55,7 @@ impl AllocState {
     ///
     /// # Errors
     ///
-    /// `NoMemory`: want of memory. The entries and a request that was prepared before stay.
+    /// `NoMemory`: out of memory. The entries and a request that was prepared before stay.
     pub fn prepare(&mut self, request: &Request) -> Result<(), NoMemory>
         requires { IsTrue (fits request.now) }
         ensures ok { OnOk result (self.new ≡ record self.old { ready = Some request.now }) }

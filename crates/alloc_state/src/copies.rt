@@ -1,5 +1,6 @@
 //! Pieces of memory that are copied out and in.
 ghost use Rattle.std.specs.Prelude.{◌≡◌, ◌+◌, ◌*◌, ◌≤◌, ◌<◌, IfOk, length, map, slice_get, slice_set, Some, true};
+ghost use Rattle.ir_ast.specs.Sizes.{most_size};
 ghost use Rattle.history.specs.Memory.{put};
 ghost use Rattle.history.specs.Fragments.{piece_at};
 
@@ -46,7 +47,7 @@ pub(crate) fn piece_of(
 ) -> Result<Piece, NoMemory>
     requires live { memory.now.live ≡ true }
     requires few { len ≤ 32 }
-    requires bound { at + len ≤ 1048576 }
+    requires bound { at + len ≤ most_size }
     requires bytes { at + len ≤ length memory.now.bytes }
     requires frags { at + len ≤ length shadow.now.frags }
     ensures { IfOk result (λ piece. piece ≡ piece_at memory.now shadow.now.frags at len) }
@@ -64,7 +65,7 @@ pub(crate) fn piece_of(
 pub(crate) fn put_bytes(memory: &mut ByteMem, at: u32, piece: &Piece)
     requires live { memory.old.live ≡ true }
     requires few { length piece.now ≤ 32 }
-    requires bound { at + length piece.now ≤ 1048576 }
+    requires bound { at + length piece.now ≤ most_size }
     requires within { at + length piece.now ≤ length memory.old.bytes }
     ensures { memory.new ≡ record memory.old { bytes = put at (map (λ pair. pair.0) piece.now) memory.old.bytes } }
 {
@@ -78,7 +79,7 @@ pub(crate) fn put_bytes(memory: &mut ByteMem, at: u32, piece: &Piece)
 #[tactic(auto, using(crate::proofs::ByteCopies::put_more, crate::proofs::ByteCopies::put_one, crate::proofs::ByteCopies::put_none, crate::proofs::ByteCopies::second_at))]
 pub(crate) fn put_frags(shadow: &mut ShadowMem, at: u32, piece: &Piece)
     requires few { length piece.now ≤ 32 }
-    requires bound { at + length piece.now ≤ 1048576 }
+    requires bound { at + length piece.now ≤ most_size }
     requires within { at + length piece.now ≤ length shadow.old.frags }
     requires room { 2 * length piece.now ≤ shadow.old.spare }
     ensures { shadow.new.frags ≡ put at (map (λ pair. pair.1) piece.now) shadow.old.frags }

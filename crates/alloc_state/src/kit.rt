@@ -5,7 +5,7 @@ ghost use Rattle.alloc_state.specs.Prepared.{made_in};
 ghost use Rattle.alloc_state.specs.Kits.{HasKit, HasPieces};
 
 use crate::made_state::MadeState;
-use bsan_ids::{NoMemory, Span, Tag};
+use bsan_ids::{Copied, NoMemory, Span, Tag};
 use history::{Piece, Request};
 use std::alloc::Global;
 

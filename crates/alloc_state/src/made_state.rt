@@ -3,9 +3,10 @@ ghost use Rattle.std.specs.Prelude.{IfOk, OnOk, OnErr, ◌≡◌, ◌+◌, ◌*�
 ghost use Rattle.std.specs.Result.{result_err};
 ghost use Rattle.eager_tree.specs.Tree.{with_root};
 ghost use Rattle.eager_tree.specs.Steps.{access as access_of, retag as retag_of, free_all as free_of};
+ghost use Rattle.ir_ast.specs.Sizes.{most_size};
 ghost use Rattle.ir_ast.specs.Words.{ty_bytes, modulus};
 ghost use Rattle.history.specs.declared.entry.Request.TheVariants.{Load as LoadRequest, Store as StoreRequest, Modify as ModifyRequest, CmpXchg as CmpXchgRequest, CopyOut as CopyOutRequest, CopyIn as CopyInRequest, Retag as RetagRequest, EndProtector as EndRequest, Free as FreeRequest};
-ghost use Rattle.history.specs.Objects.{answer, judged, judged_by, node_through, retag_judged, end_judged};
+ghost use Rattle.history.specs.Objects.{answer, judged, judged_by, node_through, retag_judged, end_judged, reborrow};
 ghost use Rattle.history.specs.Memory.{trap_in, word_at, with_word, put};
 ghost use Rattle.history.specs.Fragments.{piece_at, stored_as};
 ghost use Rattle.alloc_state.specs.ShortReplies.{reply_of};
@@ -16,10 +17,9 @@ use crate::numbers::width_of;
 use crate::short_reply::{ShortPlain, ShortReply};
 use bsan_ids::{AllocNo, NoMemory, Prov, Span, Stamp, Tag};
 use byte_mem::ByteMem;
-use eager_tree::EagerTree;
+use eager_tree::{EagerTree, Violation};
 use history::{Piece, Trap, Verdict};
 use ir_ast::{ModifyOp, Place, Ty, Width};
-use eager_tree::Violation;
 use perm_table::{Guard, Kind, RetagKind};
 use shadow_mem::ShadowMem;
 use std::alloc::Global;
@@ -55,10 +55,10 @@ impl MadeState {
     ///
     /// # Errors
     ///
-    /// `NoMemory`: want of memory.
+    /// `NoMemory`: out of memory.
     pub fn new(alloc: Global, size: u32, place: Place, root: Tag) -> Result<MadeState, NoMemory>
         requires some { 1 ≤ size }
-        requires bound { size ≤ 1048576 }
+        requires bound { size ≤ most_size }
         ensures { IfOk result (λ state. state.made ≡ new_made size place root) }
     {
         Ok(MadeState {
@@ -81,7 +81,7 @@ impl MadeState {
     ///
     /// # Errors
     ///
-    /// `NoMemory`: want of memory. The allocation stays as it was.
+    /// `NoMemory`: out of memory. The allocation stays as it was.
     pub fn reserve_frags(&mut self, runs: u32) -> Result<(), NoMemory>
         ensures room { OnOk result (runs ≤ self.new.frag_room) }
         ensures made { self.new.made ≡ self.old.made }
@@ -95,7 +95,7 @@ impl MadeState {
     ///
     /// # Errors
     ///
-    /// `NoMemory`: want of memory. The allocation stays as it was.
+    /// `NoMemory`: out of memory. The allocation stays as it was.
     pub fn reserve_node(&mut self) -> Result<(), NoMemory>
         ensures room { OnOk result (1 ≤ self.new.node_room) }
         ensures made { self.new.made ≡ self.old.made }
@@ -161,8 +161,6 @@ impl MadeState {
         ensures bound { IfOk result (λ word. word < 2 ^ (8 * ty_bytes ty)) }
         ensures within { OnOk result (at + ty_bytes ty ≤ self.now.made.tree.size) }
     {
-        let len = ty.bytes();
-        self.memory.check(Span { start: at, len })?;
         self.memory.load(at, width_of(ty))
     }
 
@@ -178,12 +176,11 @@ impl MadeState {
         ensures closed { self.new.made.closed ≡ self.old.made.closed }
         ensures node_room { self.new.node_room ≡ self.old.node_room }
     {
+        self.memory.store(at, width_of(ty), value)?;
         let span = Span {
             start: at,
             len: ty.bytes(),
         };
-        self.memory.check(span)?;
-        self.memory.store(at, width_of(ty), value)?;
         match ty {
             Ty::Int(_) => self.shadow.clear(span),
             Ty::Ptr => self.shadow.store_ptr(at, carried),
@@ -271,8 +268,8 @@ impl MadeState {
             Ok(old) => old,
             Err(trap) => return ShortReply::trapped(trap),
         };
-        if let Err(trap) = self.write(at, ty, modify(op, width, old, value), None) {
-            return ShortReply::trapped(trap);
+        if let Err(_) = self.write(at, ty, modify(op, width, old, value), None) {
+            unreachable!()
         }
         let span = Span {
             start: at,
@@ -305,16 +302,16 @@ impl MadeState {
             Ok(old) => old,
             Err(trap) => return ShortReply::trapped(trap),
         };
+        if old == expected {
+            if let Err(_) = self.write(at, ty, value, None) {
+                unreachable!()
+            }
+        }
         let span = Span {
             start: at,
             len: ty.bytes(),
         };
         let verdict = self.touch(number, prov, span, Kind::Write);
-        if old == expected {
-            if let Err(trap) = self.write(at, ty, value, None) {
-                return ShortReply::trapped(trap);
-            }
-        }
         ShortReply {
             plain: ShortPlain::Value(old),
             carried: None,
@@ -334,7 +331,7 @@ impl MadeState {
     ///
     /// # Errors
     ///
-    /// `NoMemory`: want of memory.
+    /// `NoMemory`: out of memory.
     #[tactic(auto, using(crate::proofs::ByteCopies::untrapped))]
     pub fn piece(&self, alloc: Global, at: u32, len: u8) -> Result<Piece, NoMemory>
         requires few { len ≤ 32 }
@@ -504,7 +501,7 @@ impl MadeState {
         requires room { 1 ≤ self.old.node_room }
         requires some { 1 ≤ span.len }
         requires newest { All (λ n. n.tag.0 < tag.0) self.old.made.tree.nodes }
-        ensures judged { judged_of result self.new.made ≡ retag_judged number.0 self.old.made (RetagRequest span.start span.len kind guard prov) tag.0 }
+        ensures judged { judged_of result self.new.made ≡ retag_judged number.0 self.old.made (reborrow span.start span.len kind guard prov) tag.0 }
         ensures memory { self.new.made.memory ≡ self.old.made.memory }
         ensures shadow { self.new.made.shadow ≡ self.old.made.shadow }
     {

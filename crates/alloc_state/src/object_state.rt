@@ -8,7 +8,7 @@ ghost use Rattle.alloc_state.specs.Prepared.{AreBelow, is_made_in};
 use crate::kit::{Kit, kit_for};
 use crate::made_state::MadeState;
 use crate::steps::{reserve_for, step_twice};
-use bsan_ids::{AllocNo, NoMemory, Stamp};
+use bsan_ids::{AllocNo, Copied, NoMemory, Stamp};
 use history::{Reply, Request};
 use std::alloc::Global;
 use std::marker::Model;

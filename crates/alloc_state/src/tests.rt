@@ -5,9 +5,9 @@ ghost use Rattle.alloc_state.specs.Log.{has_make};
 
 use super::AllocState;
 use bsan_ids::{AllocNo, Frag, NoMemory, Prov, Stamp, Tag, ThreadNo};
-use history::{Entry, Piece, Plain, Reply, Request, Trap, Verdict};
-use ir_ast::{Place, Ty, Width};
 use eager_tree::Violation;
+use history::{Entry, Piece, Plain, Reply, Request, Trap, Verdict};
+use ir_ast::{ModifyOp, Place, Ty, Width};
 use perm_table::{Guard, Perm, RetagKind};
 use std::alloc::Global;
 use std::test::Fail;
@@ -137,6 +137,58 @@ fn store(stamp: u64, at: u32, ty: Ty, value: u64, prov: Option<Prov>, verdict: V
         },
         reply: Reply {
             plain: Plain::Done,
+            carried: None,
+            verdict,
+        },
+    }
+}
+
+/// A `rmw` of the eight bytes from 0 on, which finds `old`.
+fn modify(
+    stamp: u64,
+    op: ModifyOp,
+    value: u64,
+    prov: Option<Prov>,
+    old: u64,
+    verdict: Verdict,
+) -> Step {
+    Step {
+        stamp,
+        request: Request::Modify {
+            at: 0,
+            width: Width::W64,
+            op,
+            value,
+            prov,
+        },
+        reply: Reply {
+            plain: Plain::Value(old),
+            carried: None,
+            verdict,
+        },
+    }
+}
+
+/// A `cmpxchg` of the eight bytes from 0 on, which finds `old`.
+fn cmp_xchg(
+    stamp: u64,
+    expected: u64,
+    value: u64,
+    prov: Option<Prov>,
+    old: u64,
+    verdict: Verdict,
+) -> Step {
+    Step {
+        stamp,
+        request: Request::CmpXchg {
+            at: 0,
+            width: Width::W64,
+            expected,
+            value,
+            prov,
+        },
+        reply: Reply {
+            plain: Plain::Value(old),
             carried: None,
             verdict,
         },
@@ -488,6 +540,102 @@ fn broken_pointer(alloc: Global) -> Result<Vec<Case>, Fail> {
     ]?)
 }
 
+/// Steps that read and write at once: the data, and what the tree makes of the write.
+fn exchanges(alloc: Global) -> Result<Vec<Case>, Fail> {
+    let x = via(1, 1);
+    let y = via(1, 2);
+    let modified = vec![in alloc;
+        make(1, 1, 8, Place::Stack),
+        retag(2, 0, 8, RetagKind::Mut, Guard::Free),
+        modify(3, ModifyOp::Add, 5, y, 0, Verdict::Clean),
+        modify(4, ModifyOp::Sub, 6, y, 5, Verdict::Clean),
+        load(5, 0, WORD, x, u64::MAX, Verdict::Clean),
+        modify(
+            6,
+            ModifyOp::And,
+            12,
+            y,
+            u64::MAX,
+            denied(0, 2, Perm::Frozen, true)
+        ),
+        load(7, 0, WORD, x, 12, Verdict::Closed),
+        free(8, true, x, Verdict::Closed),
+    ]?;
+    let exchanged = vec![in alloc;
+        make(1, 1, 8, Place::Stack),
+        retag(2, 0, 8, RetagKind::Mut, Guard::Free),
+        cmp_xchg(3, 0, 7, y, 0, Verdict::Clean),
+        load(4, 0, WORD, y, 7, Verdict::Clean),
+        cmp_xchg(5, 7, 9, x, 7, Verdict::Clean),
+        load(6, 0, WORD, y, 9, denied(0, 2, Perm::Disabled, true)),
+        free(7, true, x, Verdict::Closed),
+    ]?;
+    // another value is found: the bytes stay, and the tree's write disables the other node
+    let other_value = vec![in alloc;
+        make(1, 1, 8, Place::Stack),
+        retag(2, 0, 8, RetagKind::Mut, Guard::Free),
+        cmp_xchg(3, 1, 7, x, 0, Verdict::Clean),
+        load(4, 0, WORD, x, 0, Verdict::Clean),
+        load(5, 0, WORD, y, 0, denied(0, 2, Perm::Disabled, true)),
+        free(6, true, x, Verdict::Closed),
+    ]?;
+    Ok(vec![in alloc;
+        Case {
+            number: 1,
+            steps: modified
+        },
+        Case {
+            number: 1,
+            steps: exchanged
+        },
+        Case {
+            number: 1,
+            steps: other_value
+        },
+    ]?)
+}
+
+/// A stored pointer of which a `rmw` or a `cmpxchg` writes the bytes again, or finds another value.
+fn exchanged_pointers(alloc: Global) -> Result<Vec<Case>, Fail> {
+    let cell = via(2, 2);
+    let address = 0x1_0000_0000;
+    let modified = vec![in alloc;
+        make(2, 2, 8, Place::Stack),
+        store_pointer(3),
+        modify(4, ModifyOp::Add, 0, cell, address, Verdict::Clean),
+        load_pointer(5, cell, None),
+        free(6, true, cell, Verdict::Clean),
+    ]?;
+    let exchanged = vec![in alloc;
+        make(2, 2, 8, Place::Stack),
+        store_pointer(3),
+        cmp_xchg(4, address, address, cell, address, Verdict::Clean),
+        load_pointer(5, cell, None),
+        free(6, true, cell, Verdict::Clean),
+    ]?;
+    let other_value = vec![in alloc;
+        make(2, 2, 8, Place::Stack),
+        store_pointer(3),
+        cmp_xchg(4, 7, 9, cell, address, Verdict::Clean),
+        load_pointer(5, cell, via(1, 1)),
+        free(6, true, cell, Verdict::Clean),
+    ]?;
+    Ok(vec![in alloc;
+        Case {
+            number: 2,
+            steps: modified
+        },
+        Case {
+            number: 2,
+            steps: exchanged
+        },
+        Case {
+            number: 2,
+            steps: other_value
+        },
+    ]?)
+}
+
 /// Steps that plain memory refuses.
 fn traps(alloc: Global) -> Result<Vec<Case>, Fail> {
     let x = via(1, 1);
@@ -549,6 +697,13 @@ fn is_fitting(request: &Request) -> bool
     match request {
         Request::Make { size, .. } => *size >= 1 && *size <= 1_048_576,
         Request::Store { ty, value, .. } => is_below(*value, *ty),
+        Request::Modify { width, value, .. } => is_below(*value, Ty::Int(*width)),
+        Request::CmpXchg {
+            width,
+            expected,
+            value,
+            ..
+        } => is_below(*expected, Ty::Int(*width)) && is_below(*value, Ty::Int(*width)),
         Request::CopyOut { len, .. } => *len >= 1 && *len <= 32,
         Request::CopyIn { piece, .. } => piece.len() >= 1 && piece.len() <= 32,
         Request::Retag { len, .. } => *len >= 1,
@@ -635,6 +790,15 @@ fn replies_so(alloc: Global, case: Case) -> Result<bool, NoMemory> {
     Ok(state.number() == AllocNo(number) && state.into_entries().len() == count)
 }
 
+/// Asks that a value may move to another thread.
+fn ask_sent<T: Send>(_: &T) {}
+
+#[test]
+fn allocations_move_between_threads(rt: HostRuntime) {
+    let state = AllocState::unmade(rt.alloc(), AllocNo(1));
+    ask_sent(&state);
+}
+
 #[test]
 fn each_allocation_replies_as_worked_out(rt: HostRuntime) -> Result<(), Fail> {
     let alloc = rt.alloc();
@@ -643,6 +807,8 @@ fn each_allocation_replies_as_worked_out(rt: HostRuntime) -> Result<(), Fail> {
         ends(alloc)?,
         pointers(alloc)?,
         broken_pointer(alloc)?,
+        exchanges(alloc)?,
+        exchanged_pointers(alloc)?,
         traps(alloc)?,
     ]?;
     for group in groups {

@@ -4,7 +4,8 @@ use Rattle.bsan_ids.specs.declared.numbers.NoMemory.{NoMemory}
 use Rattle.command_words.specs.Jobs.{Job, job_of}
 use Rattle.ir_ast.specs.declared.hosts.HostTable.{HostTable}
 use Rattle.ir_ast.specs.declared.program.Program.{Program}
-use Rattle.ir_reader.specs.Readings.{IsProgramOf, Refuses, IsRefusal, most_bytes}
+use Rattle.ir_text.specs.Bytes.{most_bytes}
+use Rattle.ir_reader.specs.Readings.{IsProgramOf, Refuses, IsRefusal}
 use Rattle.ir_reader.specs.declared.fault.ReadFault.{ReadFault}
 use Rattle.ir_reader.specs.declared.fault.ReadFault.TheVariants as read_fault
 use Rattle.ir_rules.specs.Least.{fault}

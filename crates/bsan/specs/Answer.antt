@@ -5,7 +5,8 @@ use Rattle.std.specs.Io.KnownBytes.{Keeps}
 use Rattle.command_words.specs.Jobs.{Job, job_of}
 use Rattle.ir_ast.specs.Programs.{function_instructions}
 use Rattle.ir_ast.specs.declared.program.Program.{Program}
-use Rattle.ir_reader.specs.Readings.{IsProgramOf, Refuses, most_bytes}
+use Rattle.ir_text.specs.Bytes.{most_bytes}
+use Rattle.ir_reader.specs.Readings.{IsProgramOf, Refuses}
 use Rattle.ir_rules.specs.Least.{fault}
 use Rattle.ir_rules.specs.Rules.{IsAccepted, IsFirstBroken}
 use Rattle.ir_verify.specs.declared.refusal.VerifyFault.{VerifyFault}

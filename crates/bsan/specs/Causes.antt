@@ -7,7 +7,8 @@ use Rattle.command_words.specs.Jobs.{Job, job_of}
 use Rattle.command_words.specs.Jobs.Job.{Check, Instrument, Solo}
 use Rattle.ir_ast.specs.Programs.{function_instructions}
 use Rattle.ir_ast.specs.declared.program.Program.{Program}
-use Rattle.ir_reader.specs.Readings.{IsProgramOf, Refuses, most_bytes}
+use Rattle.ir_text.specs.Bytes.{most_bytes}
+use Rattle.ir_reader.specs.Readings.{IsProgramOf, Refuses}
 use Rattle.ir_reader.specs.declared.fault.ReadFault.{ReadFault}
 use Rattle.ir_rules.specs.declared.rule.Rule.{Rule}
 use Rattle.ir_rules.specs.Least.{fault}

@@ -2,7 +2,7 @@
 ghost use Rattle.std.specs.Prelude.{◌≡◌, ◌≢◌, map, string_bytes, MatchResult, IfOk, OnOk, IsErrOf};
 ghost use Rattle.command_words.specs.Meaning.{job_meant};
 ghost use Rattle.ir_ast.specs.Programs.{IsProgram};
-ghost use Rattle.ir_reader.specs.Readings.{most_bytes};
+ghost use Rattle.ir_text.specs.Bytes.{most_bytes};
 ghost use Rattle.ir_rules.specs.Rules.{IsAccepted};
 ghost use Rattle.history.specs.Records.{empty_record};
 ghost use Rattle.bsan.specs.Answer.{FindsIn, HasCause, Answers, IsBrokenRule};

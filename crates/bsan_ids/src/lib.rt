@@ -2,11 +2,13 @@
 #![tactic(auto)]
 
 mod addresses;
+mod copied;
 mod list_of;
 mod numbers;
 
 pub use addresses::{address, parts};
-pub use list_of::{Copied, ListOf};
+pub use copied::{Copied, copy_vec};
+pub use list_of::ListOf;
 pub use numbers::{
     AllocNo, Counters, Frag, Limits, Name, NoMemory, Prov, Span, Stamp, Tag, ThreadNo,
 };

@@ -2,6 +2,7 @@
 ghost use Rattle.std.specs.Prelude.{◌≡◌, [], ◌∷◌, ◌++◌, ◌<◌, ◌+◌, ◌≤◌, ◌↔◌, length, slice_get, slice_set, replicate, IsTrue, IfOk, OnOk, OnErr, OnSome};
 ghost use Rattle.std.specs.Option.{option_copied};
 
+use crate::copied::{Copied, copy_vec};
 use crate::numbers::NoMemory;
 use std::alloc::Global;
 use std::marker::Model;
@@ -23,18 +24,8 @@ impl<T> Model for ListOf<T> {
     ghost view = { λ list. list.items.items };
 }
 
-/// A value whose contents may be refused a copy.
-pub trait Copied: Sized {
-    /// The same value once more, with memory of its own.
-    ///
-    /// # Errors
-    ///
-    /// `NoMemory`: want of memory.
-    fn copy(&self) -> Result<Self, NoMemory>
-        ensures { IfOk result (λ value. value ≡ self.now) };
-}
-
 impl<T> ListOf<T> {
+    /// A list without items. It takes no memory.
     pub fn new(alloc: Global) -> ListOf<T>
         ensures { result ≡ [] }
     {
@@ -58,24 +49,35 @@ impl<T> ListOf<T> {
         items
     }
 
+    /// A list without items, whose memory comes from where that of this one comes. It takes none.
+    pub fn fresh<U>(&self) -> ListOf<U>
+        ensures { result ≡ [] }
+    {
+        ListOf::new(*self.items.allocator())
+    }
+
+    /// The items as a slice.
     pub fn as_slice(&self) -> &[T]
         ensures { result.now ≡ self.now }
     {
         self.items.as_slice()
     }
 
+    /// How many items it has.
     pub fn len(&self) -> usize
         ensures { result ≡ length self.now }
     {
         self.items.len()
     }
 
+    /// Whether it has no item.
     pub fn is_empty(&self) -> bool
         ensures { IsTrue result ↔ (self.now ≡ []) }
     {
         self.items.is_empty()
     }
 
+    /// The item at an index, counted from 0, if it is below the length.
     pub fn get(&self, at: usize) -> Option<&T>
         ensures value { option_copied result ≡ slice_get self.now at }
         ensures within { OnSome result (at < length self.now) }
@@ -85,6 +87,7 @@ impl<T> ListOf<T> {
 }
 
 impl<T: Drop> ListOf<T> {
+    /// Puts an item in the place of the one at this index, which is dropped.
     pub fn set(&mut self, at: usize, item: T)
         requires { at < length self.old }
         ensures { self.new ≡ slice_set self.old at item }
@@ -92,17 +95,20 @@ impl<T: Drop> ListOf<T> {
         self.items[at] = item;
     }
 
-    /// Appends an item, which is let go where memory is wanting.
+    /// Appends an item.
+    ///
+    /// # Errors
+    ///
+    /// `NoMemory`: out of memory. The list is as before, and the item is dropped.
     pub fn push(&mut self, item: T) -> Result<(), NoMemory>
         ensures ok { OnOk result (self.new ≡ self.old ++ item ∷ []) }
         ensures err { OnErr result (self.new ≡ self.old) }
     {
-        match self.items.push(item) {
-            Ok(()) => Ok(()),
-            Err(_) => Err(NoMemory),
-        }
+        self.items.push(item)?;
+        Ok(())
     }
 
+    /// Drops all items.
     pub fn clear(&mut self)
         ensures { self.new ≡ [] }
     {
@@ -110,25 +116,20 @@ impl<T: Drop> ListOf<T> {
     }
 }
 
-impl<T: Copied + Drop> ListOf<T> {
-    /// The same items once more, each with memory of its own.
-    ///
-    /// # Errors
-    ///
-    /// `NoMemory`: want of memory.
-    pub fn copy_each(&self) -> Result<ListOf<T>, NoMemory>
-        ensures { IfOk result (λ list. list ≡ self.now) }
-    {
-        let mut copies = ListOf::new(*self.items.allocator());
-        let items = self.items.as_slice();
-        for item in items {
-            copies.push(item.copy()?)?;
-        }
-        Ok(copies)
+impl<T: Copied + Drop> Copied for ListOf<T> {
+    fn copy(&self) -> Result<ListOf<T>, NoMemory> {
+        Ok(ListOf {
+            items: copy_vec(&self.items)?,
+        })
     }
 }
 
 impl<T: Copy> ListOf<T> {
+    /// The list of a slice's items.
+    ///
+    /// # Errors
+    ///
+    /// `NoMemory`: out of memory.
     pub fn from_slice(alloc: Global, items: &[T]) -> Result<ListOf<T>, NoMemory>
         ensures { IfOk result (λ list. list ≡ items.now) }
     {
@@ -137,20 +138,16 @@ impl<T: Copy> ListOf<T> {
         })
     }
 
-    /// `len` copies of `item`.
+    /// `len` times `item`.
+    ///
+    /// # Errors
+    ///
+    /// `NoMemory`: out of memory.
     pub fn repeated(alloc: Global, item: T, len: u32) -> Result<ListOf<T>, NoMemory>
         ensures { IfOk result (λ list. list ≡ replicate len item) }
     {
         let mut items = Vec::with_capacity(alloc, len as usize)?;
         items.resize(len as usize, item)?;
         Ok(ListOf { items })
-    }
-
-    pub fn copy(&self) -> Result<ListOf<T>, NoMemory>
-        ensures { IfOk result (λ list. list ≡ self.now) }
-    {
-        Ok(ListOf {
-            items: Vec::from_slice(*self.items.allocator(), self.items.as_slice())?,
-        })
     }
 }

@@ -55,7 +55,7 @@ pub struct Counters {
     pub threads: u64,
 }
 
-/// Want of memory.
+/// Out of memory.
 #[derive(Clone, Copy, Debug, PartialEq, Eq)]
 pub struct NoMemory;
 
@@ -65,7 +65,7 @@ impl From<AllocError> for NoMemory {
     }
 }
 
-/// What could not be stored is let go.
+/// What could not be stored is dropped.
 impl<T: Drop> From<AllocFailed<T>> for NoMemory {
     fn from(_: AllocFailed<T>) -> NoMemory {
         NoMemory

@@ -1,11 +1,14 @@
-use crate::{AllocNo, ListOf, NoMemory, address, parts};
+use crate::{AllocNo, Copied, ListOf, Name, NoMemory, address, parts};
 use std::test::Fail;
 
-fn grown(list: &ListOf<u32>, item: u32) -> Result<ListOf<u32>, NoMemory> {
+fn longer_by(list: &Name, item: u8) -> Result<Name, NoMemory> {
     let mut longer = list.copy()?;
     longer.push(item)?;
     Ok(longer)
 }
+
+/// Asks that a value may be used by several threads and may move to another one.
+fn ask_shared<T: Send + Sync>(_: &T) {}
 
 #[test]
 fn lists_find_memory(rt: HostRuntime) -> Result<(), Fail> {
@@ -13,7 +16,7 @@ fn lists_find_memory(rt: HostRuntime) -> Result<(), Fail> {
     let Ok(pair) = ListOf::from_slice(alloc, &[7, 8]) else {
         return Err(Fail::new("from_slice"));
     };
-    let Ok(list) = grown(&pair, 9) else {
+    let Ok(list) = longer_by(&pair, 9) else {
         return Err(Fail::new("copy and push"));
     };
     assert_eq!(rt; list.as_slice(), [7, 8, 9].as_slice());
@@ -22,6 +25,21 @@ fn lists_find_memory(rt: HostRuntime) -> Result<(), Fail> {
     };
     assert_eq!(rt; zeros.as_slice(), [0, 0, 0].as_slice());
     Ok(())
+}
+
+#[test]
+fn options_are_copied(rt: HostRuntime) -> Result<(), Fail> {
+    let Ok(copy) = Some(5u8).copy() else {
+        return Err(Fail::new("copy"));
+    };
+    assert_eq!(rt; copy, Some(5));
+    Ok(())
+}
+
+#[test]
+fn threads_share_names(rt: HostRuntime) {
+    let name: Name = ListOf::new(rt.alloc());
+    ask_shared(&name);
 }
 
 #[test]

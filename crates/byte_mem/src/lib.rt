@@ -7,10 +7,11 @@ ghost use Rattle.std.specs.Prelude.{◌≡◌, ◌+◌, ◌<◌, ◌≤◌, leng
 ghost use Rattle.std.specs.Result.{result_err};
 ghost use Rattle.history.specs.Memory.{made_memory, next_memory, trap_in, word_at};
 ghost use Rattle.history.specs.declared.entry.Request.TheVariants.{CopyOut, Free, Load, Store};
+ghost use Rattle.ir_ast.specs.Sizes.{most_size};
 ghost use Rattle.ir_ast.specs.Words.{modulus, width_bytes};
 ghost use Rattle.ir_ast.specs.declared.types.Ty.TheVariants.{Int};
 
-use bsan_ids::{ListOf, NoMemory, Span};
+use bsan_ids::{Copied, ListOf, NoMemory, Span, copy_vec};
 use history::Trap;
 use ir_ast::{Place, Width};
 use std::alloc::Global;
@@ -35,14 +36,20 @@ impl Model for ByteMem {
 
     ghost view = { λ m. record { bytes = m.bytes.items; live = m.live; place = m.place } };
 
-    ghost invariant = { λ m. length m.bytes.items ≤ 1048576 };
+    ghost use Rattle.ir_ast.specs.Sizes.{most_size};
+
+    ghost invariant = { λ m. length m.bytes.items ≤ most_size };
 }
 
 impl ByteMem {
     /// `size` bytes of 0, live: at least one, and at most 1,048,576.
+    ///
+    /// # Errors
+    ///
+    /// `NoMemory`: out of memory.
     pub fn new(alloc: Global, size: u32, place: Place) -> Result<ByteMem, NoMemory>
         requires some { 1 ≤ size }
-        requires bound { size ≤ 1048576 }
+        requires bound { size ≤ most_size }
         ensures { IfOk result (λ m. m ≡ made_memory size place) }
     {
         let list = ListOf::repeated(alloc, 0, size)?;
@@ -56,7 +63,7 @@ impl ByteMem {
     /// How many bytes there are.
     pub fn size(&self) -> u32
         ensures value { result ≡ length self.now.bytes }
-        ensures bound { result ≤ 1048576 }
+        ensures bound { result ≤ most_size }
     {
         self.bytes.len() as u32
     }
@@ -69,6 +76,10 @@ impl ByteMem {
     }
 
     /// Whether an access to these bytes traps.
+    ///
+    /// # Errors
+    ///
+    /// `Freed` where the allocation is freed, and else `OutOfBounds` where a byte lies outside.
     pub fn check(&self, span: Span) -> Result<(), Trap>
         ensures trap { result_err result ≡ trap_in self.now (CopyOut span.start span.len None) }
         ensures within { OnOk result (span.start + span.len ≤ length self.now.bytes) }
@@ -84,10 +95,15 @@ impl ByteMem {
     }
 
     /// The number of this width in the bytes from `at` on, least byte first.
+    ///
+    /// # Errors
+    ///
+    /// A trap, where `check` has one.
     pub fn load(&self, at: u32, width: Width) -> Result<u64, Trap>
         ensures trap { result_err result ≡ trap_in self.now (Load at (Int width) None) }
         ensures value { IfOk result (λ word. word ≡ word_at self.now at (width_bytes width)) }
         ensures bound { IfOk result (λ word. word < modulus width) }
+        ensures within { OnOk result (at + width_bytes width ≤ length self.now.bytes) }
     {
         let len = width.bytes();
         self.check(Span { start: at, len })?;
@@ -96,9 +112,14 @@ impl ByteMem {
     }
 
     /// Writes a number of this width into the bytes from `at` on, least byte first.
+    ///
+    /// # Errors
+    ///
+    /// A trap, where `check` has one. The memory is as before.
     pub fn store(&mut self, at: u32, width: Width, value: u64) -> Result<(), Trap>
         ensures trap { result_err result ≡ trap_in self.old (Store at (Int width) value None None) }
         ensures ok { OnOk result (self.new ≡ next_memory self.old (Store at (Int width) value None None)) }
+        ensures within { OnOk result (at + width_bytes width ≤ length self.old.bytes) }
         ensures err { OnErr result (self.new ≡ self.old) }
     {
         let len = width.bytes();
@@ -146,10 +167,23 @@ impl ByteMem {
     }
 }
 
+impl Copied for ByteMem {
+    fn copy(&self) -> Result<ByteMem, NoMemory> {
+        Ok(ByteMem {
+            bytes: copy_vec(&self.bytes)?,
+            live: self.live,
+            place: self.place,
+        })
+    }
+}
+
 #[cfg(test)]
 mod tests {
     use super::*;
     use std::test::Fail;
+
+    /// Asks that a value may be used by several threads and may move to another one.
+    fn ask_shared<T: Send + Sync>(_: &T) {}
 
     #[test]
     fn stores_least_byte_first_and_traps(rt: HostRuntime) -> Result<(), Fail> {
@@ -174,6 +208,9 @@ mod tests {
         let mut memory = ByteMem::new(rt.alloc(), 1, Place::Heap)?;
         assert_eq!(rt; memory.free(1, false), Err(Trap::BadFree));
         assert_eq!(rt; memory.free(0, false), Ok(()));
+        let copy = memory.copy()?;
+        assert_eq!(rt; copy.byte(0), Err(Trap::Freed));
+        ask_shared(&copy);
         Ok(())
     }
 }

@@ -7,12 +7,14 @@ use Rattle.perm_table.specs.declared.Kind.{Kind}
 use Rattle.perm_table.specs.declared.Perm.{Perm}
 use Rattle.bsan_ids.specs.declared.numbers.Span.{Span}
 use Rattle.eager_tree.specs.declared.node.Node.{Node}
-use Rattle.eager_tree.specs.Tree.{Links, links, IsTree, AreLinked}
-use Rattle.eager_tree.specs.Visit.{next_nodes, next_by}
-use Rattle.eager_tree.specs.Steps.{freed_guard}
+use Rattle.eager_tree.specs.Tree.{Tree, Links, links, IsTree, AreLinked}
+use Rattle.eager_tree.specs.Visit.{next_nodes, next_by, visit_unless}
+use Rattle.std.specs.Option.{option_or}
+use Rattle.eager_tree.specs.declared.violation.Violation.{Violation}
+use Rattle.eager_tree.specs.Steps.{freed_guard, freed_unless}
 use Rattle.eager_tree.specs.declared.sweep.Sweep.{Sweep}
 use Rattle.eager_tree.specs.declared.node.Cell.{Cell}
-use Rattle.eager_tree.specs.Sweeps.{kinds_of, reaches_of}
+use Rattle.eager_tree.specs.Sweeps.{kinds_of, reaches_of, visited}
 use Rattle.eager_tree.proofs.Nodes.{links-next_nodes, links-next_by, sized-next_nodes}
 use Rattle.std.specs.List.Sorted.{IsStrictlyIncreasing}
 use Rattle.std.proofs.lemmas.Bool.{cases_lt}
@@ -40,14 +42,6 @@ IsTree-linked size before after h e sized =
 pub IsTree-visited : (kinds : ℕ → Option Kind) (reaches : Tag → Bool) (ls : Links) (x : Tag) (size : ℕ) (nodes : List Node) → IsTree (record { size = size; nodes = nodes }) → IsTree (record { size = size; nodes = next_nodes kinds reaches ls x nodes })
 IsTree-visited kinds reaches ls x size nodes h =
     IsTree-linked size nodes (next_nodes kinds reaches ls x nodes) h (links-next_nodes kinds reaches ls x nodes) (sized-next_nodes kinds reaches ls x size nodes h.sized)
-
--- the same of a Vec that was written through its slice
-pub visited_back : (sweep : Sweep) (x : Tag) (size n : ℕ) (items now new : List Node) → IsTree (record { size = size; nodes = items }) → now ≡ items → length now ≡ n → new ≡ next_nodes (kinds_of sweep now x) (reaches_of sweep (links now) x) (links now) x now → IsTree (record { size = size; nodes = take n (new ++ drop (length new) items) })
-visited_back sweep x size n items now new h same len e =
-    let lengths : length new ≡ length now = ap length e ∙ length-map {B = Node} now _ in
-    let back : take n (new ++ drop (length new) items) ≡ new = put_back new items n (ap length (sym same) ∙ len) (lengths ∙ ap length same) in
-    let tree : IsTree (record { size = size; nodes = now }) = subst (λ (ns : List Node). IsTree (record { size = size; nodes = ns })) (sym same) h in
-    subst (λ (ns : List Node). IsTree (record { size = size; nodes = ns })) (sym (back ∙ e)) (IsTree-visited (kinds_of sweep now x) (reaches_of sweep (links now) x) (links now) x size now tree)
 
 freed_guard-keeps : (x : Tag) (size : ℕ) (node : Node) (b : Bool) → eqb node.tag.0 x.0 ≡ b → ((freed_guard x node).tag ≡ node.tag) × ((freed_guard x node).parent ≡ node.parent) × (length (freed_guard x node).cells ≡ length node.cells)
 freed_guard-keeps x size node true e = simp e (refl, refl, refl)
@@ -126,13 +120,20 @@ newest-visited : (kinds : ℕ → Option Kind) (reaches : Tag → Bool) (ls : Li
 newest-visited kinds reaches ls x nodes tag newest =
     All-map (λ (n : Node). n.tag.0 < tag.0) (next_by kinds reaches ls x) nodes (λ k d lt. rw ((links-next_by kinds reaches ls x (get_or nodes k d)).0) (newest k d lt))
 
--- the tree after a retag: `now` was visited and written back, and then the child was pushed
-pub grown_back : (sweep : Sweep) (x : Tag) (size n : ℕ) (items now new after : List Node) (node : Node) → IsTree (record { size = size; nodes = items }) → now ≡ items → length now ≡ n → new ≡ next_nodes (kinds_of sweep now x) (reaches_of sweep (links now) x) (links now) x now → after ≡ take n (new ++ drop (length new) items) ++ node ∷ [] → node.parent ≡ Some x → length node.cells ≡ size → IsTrue (has_tag (links items) x) → All (λ n. n.tag.0 < node.tag.0) items → IsTree (record { size = size; nodes = after })
-grown_back sweep x size n items now new after node h same len e pushed child sized known newest =
+-- a Vec of nodes after a visit through its slice
+pub visited_items : (sweep : Sweep) (x : Tag) (n : ℕ) (items now new : List Node) → now ≡ items → length now ≡ n → new ≡ visited sweep x now → take n (new ++ drop (length new) items) ≡ visited sweep x items
+visited_items sweep x n items now new same len e =
     let lengths : length new ≡ length now = ap length e ∙ length-map {B = Node} now _ in
-    let back : take n (new ++ drop (length new) items) ≡ new = put_back new items n (ap length (sym same) ∙ len) (lengths ∙ ap length same) in
-    let e' : new ≡ next_nodes (kinds_of sweep items x) (reaches_of sweep (links items) x) (links items) x items = e ∙ ap (λ (ns : List Node). next_nodes (kinds_of sweep ns x) (reaches_of sweep (links ns) x) (links ns) x ns) same in
-    let all : after ≡ next_nodes (kinds_of sweep items x) (reaches_of sweep (links items) x) (links items) x items ++ node ∷ [] = pushed ∙ ap (λ (ns : List Node). ns ++ node ∷ []) (back ∙ e') in
+    put_back new items n (ap length (sym same) ∙ len) (lengths ∙ ap length same) ∙ e ∙ ap (visited sweep x) same
+
+pub visited_back : (sweep : Sweep) (x : Tag) (size n : ℕ) (items now new : List Node) → IsTree (record { size = size; nodes = items }) → now ≡ items → length now ≡ n → new ≡ visited sweep x now → IsTree (record { size = size; nodes = take n (new ++ drop (length new) items) })
+visited_back sweep x size n items now new h same len e =
+    subst (λ (ns : List Node). IsTree (record { size = size; nodes = ns })) (sym (visited_items sweep x n items now new same len e))
+    (IsTree-visited (kinds_of sweep items x) (reaches_of sweep (links items) x) (links items) x size items h)
+
+-- the tree after a retag
+pub grown : (sweep : Sweep) (x : Tag) (size : ℕ) (items after : List Node) (node : Node) → IsTree (record { size = size; nodes = items }) → after ≡ visited sweep x items ++ node ∷ [] → node.parent ≡ Some x → length node.cells ≡ size → IsTrue (has_tag (links items) x) → All (λ n. n.tag.0 < node.tag.0) items → IsTree (record { size = size; nodes = after })
+grown sweep x size items after node h all child sized known newest =
     subst (λ (ns : List Node). IsTree (record { size = size; nodes = ns })) (sym all)
     (IsTree-push size _ node x (IsTree-visited (kinds_of sweep items x) (reaches_of sweep (links items) x) (links items) x size items h) child sized
     (rw (links-next_nodes (kinds_of sweep items x) (reaches_of sweep (links items) x) (links items) x items) known)
@@ -200,3 +201,9 @@ IsTree-retagged size (first ∷ []) root h one =
       linked = record { rising = rising-one root.0; parents = parents-one root first.parent (h.linked.parents 0 (first.tag, first.parent) refl) };
     }
 IsTree-retagged size (first ∷ second ∷ nodes) root h one = absurd (omega arith)
+
+-- a free, by one denial or the other
+pub freed_visit : (denial held : Option Violation) (nodes : List Node) (t : Tree) → visit_unless (option_or denial held) nodes t ≡ freed_unless held t (visit_unless denial nodes t)
+freed_visit (Some violation) held nodes t = refl
+freed_visit None (Some violation) nodes t = refl
+freed_visit None None nodes t = refl

@@ -1,6 +1,6 @@
 -- A visit: one access at every byte that has a kind, at every node that is reached.
 use Rattle.std.specs.Prelude.{ℕ, zero, suc, ◌+◌, ◌==◌, Bool, Option, Some, None, List, [], ◌∷◌, map, slice_get, if◌then◌else◌}
-use Rattle.std.specs.Option.{option_and_then}
+use Rattle.std.specs.Option.{option_and_then, option_or}
 use Rattle.bsan_ids.specs.declared.numbers.Tag.{Tag}
 use Rattle.perm_table.specs.declared.Perm.{Perm}
 use Rattle.perm_table.specs.declared.Guard.{Guard}
@@ -15,17 +15,13 @@ use Rattle.eager_tree.specs.declared.violation.Violation.TheVariants.{Denied}
 use Rattle.eager_tree.specs.Tree.{Tree, Links, links, is_on_path}
 
 -- the first answer, along a list or counting up from 0
-abbrev pub or_else : {B : Type 0} → Option B → Option B → Option B
-or_else None other = other
-or_else (Some found) other = Some found
-
 abbrev pub first_in : {A B : Type 0} → (A → Option B) → List A → Option B
 first_in f [] = None
-first_in f (x ∷ xs) = or_else (f x) (first_in f xs)
+first_in f (x ∷ xs) = option_or (f x) (first_in f xs)
 
 abbrev pub first_below : {B : Type 0} → (ℕ → Option B) → ℕ → Option B
 first_below f zero = None
-first_below f (suc n) = or_else (first_below f n) (f n)
+first_below f (suc n) = option_or (first_below f n) (f n)
 
 -- the denial of an access at one byte of one node
 abbrev pub denial_of : Node → Bool → ℕ → Perm → Outcome → Option Violation

@@ -13,6 +13,5 @@ mod tree;
 mod violation;
 
 pub use laws::path_by_parents;
-pub use node::{Cell, Node};
 pub use tree::EagerTree;
 pub use violation::Violation;

@@ -1,15 +1,22 @@
 //! The nodes of a tree, and what one access makes of a node.
-ghost use Rattle.std.specs.Prelude.{◌≡◌, Some, IfOk};
+ghost use Rattle.std.specs.Prelude.{◌≡◌, Some};
 
-use bsan_ids::{ListOf, NoMemory, Tag};
 use crate::violation::Violation;
+use bsan_ids::{Copied, ListOf, NoMemory, Tag};
 use perm_table::{Guard, Kind, Outcome, Perm, step};
 
 /// What a node may do with one byte, and whether an access was local to it there.
-#[derive(Clone, Copy)]
+#[derive(Clone, Copy, Debug, PartialEq, Eq)]
 pub struct Cell {
     pub perm: Perm,
     pub accessed: bool,
+}
+
+/// It takes no memory.
+impl Copied for Cell {
+    fn copy(&self) -> Result<Cell, NoMemory> {
+        Ok(*self)
+    }
 }
 
 /// A node: its tag, the tag of its parent, its guard, and a cell for each byte of the allocation.
@@ -23,7 +30,7 @@ pub struct Node {
 }
 
 impl Node {
-    ghost use Rattle.eager_tree.specs.Visit.{denial as denial_at, next_node, only_at};
+    ghost use Rattle.eager_tree.specs.Visit.{denial as denial_of_node, next_node, only_at};
     ghost use Rattle.eager_tree.specs.Steps.{strong_at, freed_guard};
 
     /// A child of the node `parent`.
@@ -40,7 +47,7 @@ impl Node {
 
     /// The denial of an access of this kind at `offset`, if the node denies it.
     pub fn denial(&self, local: bool, kind: Kind, offset: u32) -> Option<Violation>
-        ensures { result ≡ denial_at self.now local kind offset }
+        ensures { result ≡ denial_of_node self.now local kind offset }
     {
         let cell = self.cells.get(offset as usize)?;
         match step(cell.perm, cell.accessed, self.guard, local, kind) {
@@ -96,10 +103,10 @@ impl Node {
             self.guard = Guard::Free;
         }
     }
+}
 
-    pub fn copy(&self) -> Result<Node, NoMemory>
-        ensures { IfOk result (λ node. node ≡ self.now) }
-    {
+impl Copied for Node {
+    fn copy(&self) -> Result<Node, NoMemory> {
         Ok(Node {
             tag: self.tag,
             parent: self.parent,

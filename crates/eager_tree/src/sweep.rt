@@ -1,13 +1,13 @@
 //! One visit of a tree's nodes and bytes: what it would deny, and what it leaves.
 ghost use Rattle.std.specs.Prelude.{◌≡◌, ◌<◌, ◌==◌, length, ◌↔◌, IsTrue, All, map, IfOk, None, Some};
 ghost use Rattle.eager_tree.specs.Tree.{links, has_tag, parent_in, is_on_path};
-ghost use Rattle.eager_tree.specs.Visit.{first_in, first_below, denial, next_nodes, first_denial, denial_by, only_at};
+ghost use Rattle.eager_tree.specs.Visit.{first_in, first_below, denial, next_nodes, denial_by, only_at};
 ghost use Rattle.eager_tree.specs.Steps.{implicit_kind, cell_at, is_within, new_cells, freed_guard, strong_at};
-ghost use Rattle.eager_tree.specs.Sweeps.{kinds_of, reaches_of};
+ghost use Rattle.eager_tree.specs.Sweeps.{kinds_of, reaches_of, denial_in, visited};
 
 use crate::node::{Cell, Node};
-use bsan_ids::{ListOf, NoMemory, Span, Tag};
 use crate::violation::Violation;
+use bsan_ids::{ListOf, NoMemory, Span, Tag};
 use perm_table::{Kind, Perm};
 use std::alloc::Global;
 
@@ -67,7 +67,7 @@ pub fn on_path(nodes: &[Node], tag: Tag, above: Tag) -> bool
 }
 
 /// The state at one byte of the node with this tag.
-fn cell_of(nodes: &[Node], tag: Tag, offset: u32) -> Option<Cell>
+fn find_cell(nodes: &[Node], tag: Tag, offset: u32) -> Option<Cell>
     ensures { result ≡ cell_at nodes.now tag offset }
 {
     for node in nodes {
@@ -121,17 +121,6 @@ pub fn fill(cells: &mut ListOf<Cell>, perm: Perm, span: Span, size: u32)
     }
 }
 
-/// The same nodes once more.
-pub fn copy_of(alloc: Global, nodes: &[Node]) -> Result<Vec<Node>, NoMemory>
-    ensures { IfOk result (λ copy. copy.items ≡ nodes.now) }
-{
-    let mut copy = Vec::with_capacity(alloc, nodes.len())?;
-    for node in nodes {
-        copy.push(node.copy()?)?;
-    }
-    Ok(copy)
-}
-
 /// Takes the guard from the node with this tag.
 pub fn free_guard(nodes: &mut [Node], tag: Tag)
     ensures { nodes.new ≡ map (freed_guard tag) nodes.old }
@@ -173,7 +162,7 @@ impl Sweep {
     {
         match self {
             Sweep::Access { span, kind } => { is_inside(span, offset).then_some(kind) }
-            Sweep::EndProtector => at_end(cell_of(nodes, tag, offset)?),
+            Sweep::EndProtector => at_end(find_cell(nodes, tag, offset)?),
         }
     }
 
@@ -188,7 +177,7 @@ impl Sweep {
     }
 
     /// The first denial at a byte, along the tags.
-    fn denial_at(self, nodes: &[Node], tag: Tag, offset: u32, kind: Kind) -> Option<Violation>
+    fn denial_for_kind(self, nodes: &[Node], tag: Tag, offset: u32, kind: Kind) -> Option<Violation>
         ensures { result ≡ first_in (denial_by (reaches_of self (links nodes.now) tag) (links nodes.now) tag kind offset) nodes.now }
     {
         for node in nodes {
@@ -204,11 +193,11 @@ impl Sweep {
 
     /// The first denial of the visit, by offset and then by tag.
     pub fn denial(self, nodes: &[Node], tag: Tag, size: u32) -> Option<Violation>
-        ensures { result ≡ first_denial (kinds_of self nodes.now tag) (reaches_of self (links nodes.now) tag) (links nodes.now) tag size nodes.now }
+        ensures { result ≡ denial_in self tag size nodes.now }
     {
         for offset in 0..size {
             if let Some(kind) = self.kind_at(nodes, tag, offset) {
-                if let Some(violation) = self.denial_at(nodes, tag, offset, kind) {
+                if let Some(violation) = self.denial_for_kind(nodes, tag, offset, kind) {
                     return Some(violation);
                 }
             }
@@ -233,7 +222,7 @@ impl Sweep {
     /// Does the visit.
     pub fn apply(self, nodes: &mut [Node], tag: Tag, size: u32)
         requires { All (λ n. length n.cells ≡ size) nodes.old }
-        ensures { nodes.new ≡ next_nodes (kinds_of self nodes.old tag) (reaches_of self (links nodes.old) tag) (links nodes.old) tag nodes.old }
+        ensures { nodes.new ≡ visited self tag nodes.old }
     {
         for offset in 0..size {
             if let Some(kind) = self.kind_at(nodes, tag, offset) {

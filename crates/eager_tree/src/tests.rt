@@ -2,8 +2,8 @@ ghost use Rattle.std.specs.Prelude.{◌+◌, ◌≤◌, IsTrue};
 ghost use Rattle.eager_tree.specs.Tree.{is_node};
 
 use super::*;
-use bsan_ids::{Span, Tag};
 use crate::violation::Violation;
+use bsan_ids::{Copied, Span, Tag};
 use perm_table::{Guard, Kind, Perm, RetagKind};
 use std::alloc::Global;
 use std::process::Abort;

@@ -1,14 +1,15 @@
 //! The tree of one allocation, and its steps.
-ghost use Rattle.std.specs.Prelude.{◌≡◌, ◌+◌, ◌≤◌, ◌<◌, ◌↔◌, All, IsTrue, IfOk, IsOk, OnOk, OnErr, length};
+ghost use Rattle.std.specs.Prelude.{◌≡◌, ◌+◌, ◌≤◌, ◌<◌, ◌↔◌, All, IsTrue, IfOk, IsOk, OnOk, OnErr, length, [], ◌∷◌, ◌++◌, vec_len, vec_capacity};
+ghost use Rattle.eager_tree.specs.Sweeps.{denial_in, visited};
+ghost use Rattle.eager_tree.specs.Visit.{visit_unless as done_unless};
+ghost use Rattle.std.specs.Option.{option_or};
 ghost use Rattle.eager_tree.specs.Tree.{new_tree, is_node, with_root};
-ghost use Rattle.eager_tree.specs.Steps.{access as access_of, retag as retag_of, end_protector as end_of, free_all as free_of};
+ghost use Rattle.eager_tree.specs.Steps.{access as access_of, retag as retag_of, end_protector as end_of, free_all as free_of, strong_free};
 
 use crate::node::{Cell, Node};
-use crate::sweep::{
-    Sweep, are_older, cells_of, copy_of, fill, free_guard, holds_tag, strongly_held,
-};
-use bsan_ids::{ListOf, NoMemory, Span, Tag};
+use crate::sweep::{Sweep, are_older, cells_of, fill, free_guard, holds_tag, strongly_held};
 use crate::violation::Violation;
+use bsan_ids::{Copied, ListOf, NoMemory, Span, Tag, copy_vec};
 use perm_table::{Guard, Kind, Perm, RetagKind, start};
 use std::alloc::Global;
 use std::marker::Model;
@@ -36,6 +37,18 @@ impl Model for EagerTree {
     ghost invariant = { λ t. IsKept t.size t.nodes t.ready };
 }
 
+/// Does the visit through the node `parent` and appends a node, for which there is room.
+fn add_child(nodes: &mut Vec<Node>, sweep: Sweep, size: u32, parent: Tag, child: Node)
+    requires sized { All (λ n. length n.cells ≡ size) nodes.old.items }
+    requires room { vec_len nodes.old < vec_capacity nodes.old }
+    ensures items { nodes.new.items ≡ visited sweep parent nodes.old.items ++ child ∷ [] }
+    ensures len { vec_len nodes.new ≡ vec_len nodes.old + 1 }
+    ensures capacity { vec_capacity nodes.new ≡ vec_capacity nodes.old }
+{
+    sweep.apply(nodes, parent, size);
+    nodes.push_reserved(child);
+}
+
 impl EagerTree {
     /// The tree of an allocation of `size` bytes, at least one, with a root that may do all.
     pub fn new(alloc: Global, root: Tag, size: u32) -> Result<EagerTree, NoMemory>
@@ -56,18 +69,6 @@ impl EagerTree {
         nodes.push_reserved(node);
         Ok(EagerTree {
             size,
-            nodes,
-            ready: None,
-        })
-    }
-
-    /// The same tree, without room for a further node.
-    pub fn copy(&self) -> Result<EagerTree, NoMemory>
-        ensures { IfOk result (λ t. t ≡ record { tree = self.now.tree; spare = 0 }) }
-    {
-        let nodes = copy_of(*self.nodes.allocator(), &self.nodes)?;
-        Ok(EagerTree {
-            size: self.size,
             nodes,
             ready: None,
         })
@@ -105,17 +106,17 @@ impl EagerTree {
     {
         let sweep = Sweep::Access { span, kind };
         let denial = sweep.denial(&self.nodes, tag, self.size);
-        if denial.is_none() {
-            sweep.apply(&mut self.nodes, tag, self.size);
-        }
-        denial
+        self.visit_unless(denial, sweep, tag)
     }
 
     /// Reads the span through `parent` and, where that is not denied, adds a child of it. The child
     /// begins with one state on all bytes, and counts the bytes of the span alone as accessed.
     ///
     /// The span is at least one byte of the allocation, and the tag greater than each of the tree.
-    /// Where memory is wanting nothing changes.
+    ///
+    /// # Errors
+    ///
+    /// `NoMemory`: out of memory. The tree stays as it was.
     pub fn retag(
         &mut self,
         parent: Tag,
@@ -142,10 +143,10 @@ impl EagerTree {
         }
         let alloc = *self.nodes.allocator();
         let cells = cells_of(alloc, start(kind, guard), span, self.size)?;
+        // one for the child, and one so that the room which `reserve_node` made stays
         self.nodes.reserve(2)?;
-        sweep.apply(&mut self.nodes, parent, self.size);
         let child = Node::child(parent, tag, guard, cells);
-        self.nodes.push_reserved(child);
+        add_child(&mut self.nodes, sweep, self.size, parent, child);
         Ok(None)
     }
 
@@ -182,12 +183,33 @@ impl EagerTree {
             span,
             kind: Kind::Write,
         };
-        let mut denial = sweep.denial(&self.nodes, tag, self.size);
+        let denial = self.denial_of_free(sweep, tag);
+        self.visit_unless(denial, sweep, tag)
+    }
+
+    /// What forbids a free: a denial of its write, or else a strongly guarded node's accessed byte.
+    fn denial_of_free(&self, write: Sweep, tag: Tag) -> Option<Violation>
+        ensures { result ≡ option_or (denial_in write tag self.now.tree.size self.now.tree.nodes) (strong_free self.now.tree) }
+    {
+        match write.denial(&self.nodes, tag, self.size) {
+            None => strongly_held(&self.nodes, self.size),
+            denial => denial,
+        }
+    }
+
+    /// Does the visit through a node, unless there is a denial, and answers the denial.
+    fn visit_unless(
+        &mut self,
+        denial: Option<Violation>,
+        sweep: Sweep,
+        tag: Tag,
+    ) -> Option<Violation>
+        ensures answer { (result, self.new.tree) ≡ done_unless denial (visited sweep tag self.old.tree.nodes) self.old.tree }
+        ensures spare { self.new.spare ≡ self.old.spare }
+        ensures size { self.new.tree.size ≡ self.old.tree.size }
+    {
         if denial.is_none() {
-            denial = strongly_held(&self.nodes, self.size);
-            if denial.is_none() {
-                sweep.apply(&mut self.nodes, tag, self.size);
-            }
+            sweep.apply(&mut self.nodes, tag, self.size);
         }
         denial
     }
@@ -204,7 +226,7 @@ impl EagerTree {
     ///
     /// # Errors
     ///
-    /// `NoMemory`: want of memory, where there was no room. The tree stays as it was.
+    /// `NoMemory`: out of memory, where there was no room. The tree stays as it was.
     pub fn reserve_node(&mut self) -> Result<(), NoMemory>
         ensures ok { OnOk result (1 ≤ self.new.spare) }
         ensures succeeds { 1 ≤ self.old.spare → IsOk result }
@@ -254,9 +276,18 @@ impl EagerTree {
             unreachable!()
         };
         fill(&mut cells, start(kind, guard), span, self.size);
-        sweep.apply(&mut self.nodes, parent, self.size);
         let child = Node::child(parent, tag, guard, cells);
-        self.nodes.push_reserved(child);
+        add_child(&mut self.nodes, sweep, self.size, parent, child);
         None
+    }
+}
+
+impl Copied for EagerTree {
+    fn copy(&self) -> Result<EagerTree, NoMemory> {
+        Ok(EagerTree {
+            size: self.size,
+            nodes: copy_vec(&self.nodes)?,
+            ready: self.ready.copy()?,
+        })
     }
 }

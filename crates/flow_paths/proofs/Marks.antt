@@ -1,22 +1,20 @@
 -- Marks and work, and the paths that they stand for.
 use Rattle.std.proofs.Common.{◌≡◌, ℕ, zero, suc, ◌+◌, ◌≤◌, ◌<◌, Bool, true, false, List, [], ◌∷◌, ◌++◌, length, drop, get_or, replicate, set, Option, Some, length-set, length-append, refl, sym, ap, subst, ◌∙◌, arith, ◌⊎◌, inl, inr}
-use Rattle.std.specs.Prelude.{slice_get}
-use Rattle.flow_paths.specs.Paths.{Member, Passes, IsPath, IsEntered, IsMarked, unmarked, Answers, Visited}
+use Rattle.std.specs.Prelude.{slice_get, Contains}
+use Rattle.std.proofs.lemmas.List.Elements.{Contains-append_cases, Contains-append_left, Contains-append_right, Contains-push, Contains-push_cases}
+use Rattle.flow_paths.specs.Paths.{Passes, IsPath, IsEntered, IsMarked, unmarked, Answers, Visited}
 
-pub Member-push : (xs : List ℕ) (y b : ℕ) → Member (xs ++ y ∷ []) b → Member xs b ⊎ (b ≡ y)
-Member-push [] y b (inl e) = inr e
-Member-push [] y b (inr h) = absurd h
-Member-push (x ∷ xs) y b (inl e) = inl (inl e)
-Member-push (x ∷ xs) y b (inr h) = elim (Member-push xs y b h) [ inl k ↦ inl (inr k) | inr e ↦ inr e ]
+none_in : (b : ℕ) → Contains [] b → ⊥
+none_in b h = absurd (omega (arith, h.1))
 
-pub push-Member : (xs : List ℕ) (y b : ℕ) → Member xs b → Member (xs ++ y ∷ []) b
-push-Member [] y b h = absurd h
-push-Member (x ∷ xs) y b (inl e) = inl e
-push-Member (x ∷ xs) y b (inr h) = inr (push-Member xs y b h)
+cons_here : (s : ℕ) (ss : List ℕ) → Contains (s ∷ ss) s
+cons_here s ss = Contains-append_left (s ∷ []) ss s (Contains-push [] s)
 
-pub push-last : (xs : List ℕ) (y : ℕ) → Member (xs ++ y ∷ []) y
-push-last [] y = inl refl
-push-last (x ∷ xs) y = inr (push-last xs y)
+cons_cases : (s : ℕ) (ss : List ℕ) (b : ℕ) → Contains (s ∷ ss) b → (s ≡ b) ⊎ Contains ss b
+cons_cases s ss b h = elim (Contains-append_cases (s ∷ []) ss b h) [
+  | inl one ↦ elim (Contains-push_cases [] s b one) [ inl none ↦ absurd (none_in b none) | inr e ↦ inl e ]
+  | inr more ↦ inr more
+]
 
 pub marked_inside : (m : List Bool) (b : ℕ) → IsMarked m b → b < length m
 marked_inside [] b h = absurd cc
@@ -53,7 +51,7 @@ set_same (x ∷ m) (suc s) lt = set_same m s (omega arith)
 -- ---- going to nodes, one after the other
 
 pub none_visited : (m : List Bool) (w : List ℕ) → Visited [] m w m w
-none_visited m w = record { size = refl; grows = λ b h. h; each = λ b h. absurd h; only = λ b h. inl h; keeps = λ b h. h; noted = λ b h. inl h; balance = refl }
+none_visited m w = record { size = refl; grows = λ b h. h; each = λ b h. absurd (none_in b h); only = λ b h. inl h; keeps = λ b h. h; noted = λ b h. inl h; balance = refl }
 
 pub old_visited : (s : ℕ) (ss : List ℕ) (m : List Bool) (w : List ℕ) (m' : List Bool) (w' : List ℕ) → IsMarked m s → Visited ss m w m' w' → Visited (s ∷ ss) m w m' w'
 old_visited s ss m w m' w' h v = record {
@@ -62,22 +60,22 @@ old_visited s ss m w m' w' h v = record {
   keeps = v.keeps;
   noted = v.noted;
   balance = v.balance;
-  each = λ b k. elim k [ inl e ↦ subst (IsMarked m') (sym e) (v.grows s h) | inr r ↦ v.each b r ];
-  only = λ b k. elim (v.only b k) [ inl r ↦ inl r | inr r ↦ inr (inr r.0, r.1) ];
+  each = λ b k. elim (cons_cases s ss b k) [ inl e ↦ subst (IsMarked m') e (v.grows s h) | inr r ↦ v.each b r ];
+  only = λ b k. elim (v.only b k) [ inl r ↦ inl r | inr r ↦ inr (Contains-append_right (s ∷ []) ss b r.0, r.1) ];
 }
 
 pub new_visited : (s : ℕ) (ss : List ℕ) (m : List Bool) (w : List ℕ) (m' : List Bool) (w' : List ℕ) → s < length m → get_or m s false ≡ false → Visited ss (set m s true) (w ++ s ∷ []) m' w' → Visited (s ∷ ss) m w m' w'
 new_visited s ss m w m' w' lt h v = record {
   size = v.size ∙ length-set m s true;
   grows = λ b k. v.grows b (marked_set m s b k);
-  each = λ b k. elim k [ inl e ↦ subst (IsMarked m') (sym e) (v.grows s (set_same m s lt)) | inr r ↦ v.each b r ];
+  each = λ b k. elim (cons_cases s ss b k) [ inl e ↦ subst (IsMarked m') e (v.grows s (set_same m s lt)) | inr r ↦ v.each b r ];
   only = λ b k. elim (v.only b k) [
-    | inl r ↦ elim (set_marked m s b lt r) [ inl old ↦ inl old | inr e ↦ inr (inl e, subst (Member w') (sym e) (v.keeps s (push-last w s))) ]
-    | inr r ↦ inr (inr r.0, r.1)
+    | inl r ↦ elim (set_marked m s b lt r) [ inl old ↦ inl old | inr e ↦ inr (subst (Contains (s ∷ ss)) (sym e) (cons_here s ss), subst (Contains w') (sym e) (v.keeps s (Contains-push w s))) ]
+    | inr r ↦ inr (Contains-append_right (s ∷ []) ss b r.0, r.1)
   ];
-  keeps = λ b k. v.keeps b (push-Member w s b k);
+  keeps = λ b k. v.keeps b (Contains-append_left w (s ∷ []) b k);
   noted = λ b k. elim (v.noted b k) [
-    | inl r ↦ elim (Member-push w s b r) [ inl old ↦ inl old | inr e ↦ inr (subst (IsMarked m') (sym e) (v.grows s (set_same m s lt))) ]
+    | inl r ↦ elim (Contains-push_cases w s b r) [ inl old ↦ inl old | inr e ↦ inr (subst (IsMarked m') e (v.grows s (set_same m s lt))) ]
     | inr r ↦ inr r
   ];
   balance = omega (arith, v.balance, set_unmarked m s lt h, length-append w (s ∷ []));
@@ -92,8 +90,8 @@ pub record Sound (graph : List (List ℕ)) (stops : List Bool) (m : List Bool) (
   pub size : length m ≡ length graph
   pub first : IsMarked m 0
   pub only : (b : ℕ) → IsMarked m b → IsEntered graph stops b
-  pub noted : (b : ℕ) → Member w b → IsMarked m b
-  pub closed : (b : ℕ) → IsMarked m b → Member w b ⊎ Closed graph stops m b
+  pub noted : (b : ℕ) → Contains w b → IsMarked m b
+  pub closed : (b : ℕ) → IsMarked m b → Contains w b ⊎ Closed graph stops m b
 
 same_some : {A : Type 0} (x y : A) → (let z : Option A = Some x in z) ≡ Some y → x ≡ y
 same_some x y e = cc
@@ -102,7 +100,7 @@ same_at : {A : Type 0} (xs : List A) (b c : ℕ) (x y : A) → c ≡ b → slice
 same_at xs b c x y is h k = same_some x y (sym h ∙ ap (slice_get xs) is ∙ k)
 
 pub popped_marked : (graph : List (List ℕ)) (stops m : List Bool) (w w' : List ℕ) (b : ℕ) → Sound graph stops m w → w ≡ w' ++ b ∷ [] → IsMarked m b
-popped_marked graph stops m w w' b s e = s.noted b (subst (λ (z : List ℕ). Member z b) (sym e) (push-last w' b))
+popped_marked graph stops m w w' b s e = s.noted b (subst (λ (z : List ℕ). Contains z b) (sym e) (Contains-push w' b))
 
 -- no path goes through a node that stops it
 pub step_stops : (graph : List (List ℕ)) (stops m : List Bool) (w w' : List ℕ) (b : ℕ) → Sound graph stops m w → w ≡ w' ++ b ∷ [] → slice_get stops b ≡ Some true → Sound graph stops m w'
@@ -110,18 +108,18 @@ step_stops graph stops m w w' b s e halts = record {
   size = s.size;
   first = s.first;
   only = s.only;
-  noted = λ c h. s.noted c (subst (λ (z : List ℕ). Member z c) (sym e) (push-Member w' b c h));
+  noted = λ c h. s.noted c (subst (λ (z : List ℕ). Contains z c) (sym e) (Contains-append_left w' (b ∷ []) c h));
   closed = λ c h. elim (s.closed c h) [
-    | inl k ↦ elim (Member-push w' b c (subst (λ (z : List ℕ). Member z c) e k)) [
+    | inl k ↦ elim (Contains-push_cases w' b c (subst (λ (z : List ℕ). Contains z c) e k)) [
       | inl old ↦ inl old
-      | inr is ↦ inr (λ t p. let q : false ≡ true = same_at stops b c false true is p.2 halts in absurd cc)
+      | inr is ↦ inr (λ t p. let q : false ≡ true = same_at stops b c false true (sym is) p.2 halts in absurd cc)
     ]
     | inr k ↦ inr k
   ];
 }
 
 -- one node more on the path
-entered_next : (graph : List (List ℕ)) (stops : List Bool) (b c : ℕ) (next : List ℕ) → IsEntered graph stops b → slice_get graph b ≡ Some next → slice_get stops b ≡ Some false → Member next c → IsEntered graph stops c
+entered_next : (graph : List (List ℕ)) (stops : List Bool) (b c : ℕ) (next : List ℕ) → IsEntered graph stops b → slice_get graph b ≡ Some next → slice_get stops b ≡ Some false → Contains next c → IsEntered graph stops c
 entered_next graph stops b c next p at passes there = (b ∷ p.0, ((next, at, passes, there), p.1))
 
 pub step_visits : (graph : List (List ℕ)) (stops m : List Bool) (w w' : List ℕ) (b : ℕ) (next : List ℕ) (m2 : List Bool) (w2 : List ℕ) → Sound graph stops m w → w ≡ w' ++ b ∷ []
@@ -134,14 +132,14 @@ step_visits graph stops m w w' b next m2 w2 s e at passes v = record {
     | inr new ↦ entered_next graph stops b c next (s.only b (popped_marked graph stops m w w' b s e)) at passes new.0
   ];
   noted = λ c h. elim (v.noted c h) [
-    | inl old ↦ v.grows c (s.noted c (subst (λ (z : List ℕ). Member z c) (sym e) (push-Member w' b c old)))
+    | inl old ↦ v.grows c (s.noted c (subst (λ (z : List ℕ). Contains z c) (sym e) (Contains-append_left w' (b ∷ []) c old)))
     | inr new ↦ new
   ];
   closed = λ c h. elim (v.only c h) [
     | inl old ↦ elim (s.closed c old) [
-      | inl k ↦ elim (Member-push w' b c (subst (λ (z : List ℕ). Member z c) e k)) [
+      | inl k ↦ elim (Contains-push_cases w' b c (subst (λ (z : List ℕ). Contains z c) e k)) [
         | inl left ↦ inl (v.keeps c left)
-        | inr is ↦ inr (λ t p. v.each t (subst (λ (z : List ℕ). Member z t) (same_at graph b c p.0 next is p.1 at) p.3))
+        | inr is ↦ inr (λ t p. v.each t (subst (λ (z : List ℕ). Contains z t) (same_at graph b c p.0 next (sym is) p.1 at) p.3))
       ]
       | inr k ↦ inr (λ t p. v.grows t (k t p))
     ]
@@ -155,7 +153,7 @@ answers graph stops m s = record { size = s.size; only = s.only; each = λ b p. 
   where
     reached : (b : ℕ) (path : List ℕ) → IsPath graph stops (b ∷ path) → IsMarked m b
     reached b [] e = subst (IsMarked m) (sym e) s.first
-    reached b (c ∷ path) h = elim (s.closed c (reached c path h.1)) [ inl k ↦ absurd k | inr k ↦ k b h.0 ]
+    reached b (c ∷ path) h = elim (s.closed c (reached c path h.1)) [ inl k ↦ absurd (none_in c k) | inr k ↦ k b h.0 ]
 
 -- node 0 alone is marked at the start
 pub starts : (graph : List (List ℕ)) (stops m : List Bool) → length m ≡ length graph → 0 < length m → ((b : ℕ) → get_or m b false ≡ false) → Sound graph stops (set m 0 true) (0 ∷ [])
@@ -163,8 +161,8 @@ starts graph stops m size some none = record {
   size = length-set m 0 true ∙ size;
   first = set_same m 0 some;
   only = λ b h. elim (set_marked m 0 b some h) [ inl old ↦ let q : true ≡ false = sym old ∙ none b in absurd cc | inr e ↦ ([], e) ];
-  noted = λ b h. elim h [ inl e ↦ subst (IsMarked (set m 0 true)) (sym e) (set_same m 0 some) | inr k ↦ absurd k ];
-  closed = λ b h. elim (set_marked m 0 b some h) [ inl old ↦ let q : true ≡ false = sym old ∙ none b in absurd cc | inr e ↦ inl (inl e) ];
+  noted = λ b h. elim (cons_cases 0 [] b h) [ inl e ↦ subst (IsMarked (set m 0 true)) e (set_same m 0 some) | inr k ↦ absurd (none_in b k) ];
+  closed = λ b h. elim (set_marked m 0 b some h) [ inl old ↦ let q : true ≡ false = sym old ∙ none b in absurd cc | inr e ↦ inl (subst (Contains (0 ∷ [])) (sym e) (cons_here 0 [])) ];
 }
 
 pub drop_all : (xs : List ℕ) (n : ℕ) → length xs ≤ n → drop n xs ≡ []

@@ -1,9 +1,5 @@
 -- Flow graphs: paths that no node on them stops. A graph has for each node the nodes to which it goes.
-use Rattle.std.specs.Prelude.{◌≡◌, ℕ, ◌+◌, ◌<◌, Bool, true, false, List, [], ◌∷◌, length, All, ◌⊎◌, slice_get, slice_index_or, Some}
-
-abbrev pub Member : List ℕ → ℕ → Type 0
-Member [] b = ⊥
-Member (x ∷ xs) b = (b ≡ x) ⊎ Member xs b
+use Rattle.std.specs.Prelude.{◌≡◌, ℕ, ◌+◌, ◌<◌, Bool, true, false, List, [], ◌∷◌, length, All, Contains, ◌⊎◌, slice_get, slice_index_or, Some}
 
 -- every node goes to nodes of the graph
 abbrev pub IsInside : List (List ℕ) → Type 0
@@ -11,7 +7,7 @@ IsInside graph = All (λ next. All (λ s. s < length graph) next) graph
 
 -- what comes into the node b goes on to s
 abbrev pub Passes : List (List ℕ) → List Bool → ℕ → ℕ → Type 0
-Passes graph stops b s = (next : List ℕ) × (slice_get graph b ≡ Some next) × (slice_get stops b ≡ Some false) × Member next s
+Passes graph stops b s = (next : List ℕ) × (slice_get graph b ≡ Some next) × (slice_get stops b ≡ Some false) × Contains next s
 
 -- A path, listed from its last node back to node 0: each node before the last goes to the one after it,
 -- and doesn't stop what comes in.
@@ -42,8 +38,8 @@ pub record Answers (graph : List (List ℕ)) (stops : List Bool) (marked : List 
 pub record Visited (next : List ℕ) (marked : List Bool) (work : List ℕ) (marked' : List Bool) (work' : List ℕ) : Type 0 where
   pub size : length marked' ≡ length marked
   pub grows : (b : ℕ) → IsMarked marked b → IsMarked marked' b
-  pub each : (b : ℕ) → Member next b → IsMarked marked' b
-  pub only : (b : ℕ) → IsMarked marked' b → IsMarked marked b ⊎ (Member next b × Member work' b)
-  pub keeps : (b : ℕ) → Member work b → Member work' b
-  pub noted : (b : ℕ) → Member work' b → Member work b ⊎ IsMarked marked' b
+  pub each : (b : ℕ) → Contains next b → IsMarked marked' b
+  pub only : (b : ℕ) → IsMarked marked' b → IsMarked marked b ⊎ (Contains next b × Contains work' b)
+  pub keeps : (b : ℕ) → Contains work b → Contains work' b
+  pub noted : (b : ℕ) → Contains work' b → Contains work b ⊎ IsMarked marked' b
   pub balance : unmarked marked' + length work' ≡ unmarked marked + length work

@@ -1,10 +1,11 @@
 -- The pair at an index of a piece.
 use Rattle.std.proofs.Common.{◌≡◌, ℕ, zero, suc, ◌+◌, ◌-◌, ◌<◌, ◌≤◌, Option, Some, None, List, [], ◌∷◌, ◌++◌, length, length-append, slice_get, refl, ap, ◌∙◌, arith}
 use Rattle.std.specs.List.{zip}
+use Rattle.bsan_ids.specs.declared.numbers.Prov.{Prov}
 use Rattle.bsan_ids.specs.declared.numbers.Frag.{Frag}
 use Rattle.history.specs.declared.piece.Run.{Run}
 use Rattle.history.proofs.Runs.{length-zip}
-use Rattle.history.specs.Pieces.{run_from, run_of, fragments_of}
+use Rattle.history.specs.Pieces.{fragments_from, run_of, fragments_of}
 
 pub slice_get-left : {A : Type 0} (xs ys : List A) (k : ℕ) → k < length xs → slice_get (xs ++ ys) k ≡ slice_get xs k
 slice_get-left [] ys k lt = absurd (omega (arith, lt))
@@ -17,15 +18,15 @@ slice_get-right (x ∷ xs) ys k =
     let less : length (x ∷ xs) + k ≡ suc (length xs + k) = omega arith in
     ap (λ (i : ℕ). slice_get (x ∷ (xs ++ ys)) i) less ∙ slice_get-right xs ys k
 
-run_from-get : (first : Frag) (n k : ℕ) → k < n → slice_get (run_from first n) k ≡ Some (Some (record first { index = first.index + k }))
-run_from-get first zero k lt = absurd (omega (arith, lt))
-run_from-get first (suc n) zero lt =
-    let same : first.index ≡ first.index + 0 = omega arith in
-    ap (λ (i : ℕ). Some (Some (record first { index = i }))) same
-run_from-get first (suc n) (suc k) lt =
-    let place : first.index + 1 + k ≡ first.index + suc k = omega arith in
-    run_from-get (record first { index = first.index + 1 }) n k (omega (arith, lt))
-    ∙ ap (λ (i : ℕ). Some (Some (record first { index = i }))) place
+fragments_from-get : (prov : Prov) (index n k : ℕ) → k < n → slice_get (fragments_from prov index n) k ≡ Some (Some (record { prov = prov; index = index + k }))
+fragments_from-get prov index zero k lt = absurd (omega (arith, lt))
+fragments_from-get prov index (suc n) zero lt =
+    let same : index ≡ index + 0 = omega arith in
+    ap (λ (i : ℕ). Some (Some (record { prov = prov; index = i }))) same
+fragments_from-get prov index (suc n) (suc k) lt =
+    let place : index + 1 + k ≡ index + suc k = omega arith in
+    fragments_from-get prov (index + 1) n k (omega (arith, lt))
+    ∙ ap (λ (i : ℕ). Some (Some (record { prov = prov; index = i }))) place
 
 pub none_run_at : (len k : ℕ) → k < len → slice_get (run_of len None) k ≡ Some None
 none_run_at zero k lt = absurd (omega (arith, lt))
@@ -33,11 +34,11 @@ none_run_at (suc len) zero lt = refl
 none_run_at (suc len) (suc k) lt = none_run_at len k (omega (arith, lt))
 
 pub some_run_at : (len k : ℕ) (first : Frag) → k < len → slice_get (run_of len (Some first)) k ≡ Some (Some (record first { index = first.index + k }))
-some_run_at len k first lt = run_from-get first len k lt
+some_run_at len k first lt = fragments_from-get first.prov first.index len k lt
 
-length-run_from : (first : Frag) (n : ℕ) → length (run_from first n) ≡ n
-length-run_from first zero = refl
-length-run_from first (suc n) = ap (λ (k : ℕ). suc k) (length-run_from (record first { index = first.index + 1 }) n)
+length-fragments_from : (prov : Prov) (index n : ℕ) → length (fragments_from prov index n) ≡ n
+length-fragments_from prov index zero = refl
+length-fragments_from prov index (suc n) = ap (λ (k : ℕ). suc k) (length-fragments_from prov (index + 1) n)
 
 length-none : (n : ℕ) → length (run_of n None) ≡ n
 length-none zero = refl
@@ -45,7 +46,7 @@ length-none (suc n) = ap (λ (k : ℕ). suc k) (length-none n)
 
 pub length-run_of : (len : ℕ) (first : Option Frag) → length (run_of len first) ≡ len
 length-run_of len None = length-none len
-length-run_of len (Some first) = length-run_from first len
+length-run_of len (Some first) = length-fragments_from first.prov first.index len
 
 -- a byte of the first run
 pub first_run_at : (run : Run) (runs : List Run) (k : ℕ) → k < run.len → slice_get (fragments_of (run ∷ runs)) k ≡ slice_get (run_of run.len run.first) k

@@ -1,5 +1,6 @@
 mod Runs
 mod Indexed
+pub mod Same
 pub mod Order
 mod Sorted
 pub mod Distinct

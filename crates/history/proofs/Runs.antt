@@ -2,16 +2,17 @@
 use Rattle.std.proofs.Common.{◌≡◌, ℕ, zero, suc, ◌+◌, Option, Some, None, List, [], ◌∷◌, ◌++◌, length, replicate, refl, ap, ◌∙◌, sym, arith, add-zero, append_assoc}
 use Rattle.std.proofs.lemmas.List.{append-nil}
 use Rattle.std.specs.List.{zip}
+use Rattle.bsan_ids.specs.declared.numbers.Prov.{Prov}
 use Rattle.bsan_ids.specs.declared.numbers.Frag.{Frag}
 use Rattle.history.specs.declared.piece.Run.{Run}
-use Rattle.history.specs.Pieces.{run_from, run_of, fragments_of}
+use Rattle.history.specs.Pieces.{fragments_from, run_of, fragments_of}
 
-pub run_from-more : (first : Frag) (n : ℕ) → run_from first (n + 1) ≡ run_from first n ++ Some (record first { index = first.index + n }) ∷ []
-run_from-more first zero = rw add-zero refl
-run_from-more first (suc n) =
+pub fragments_from-more : (prov : Prov) (index n : ℕ) → fragments_from prov index (n + 1) ≡ fragments_from prov index n ++ Some (record { prov = prov; index = index + n }) ∷ []
+fragments_from-more prov index zero = rw add-zero refl
+fragments_from-more prov index (suc n) =
     let less : suc n + 1 ≡ suc (n + 1) = omega arith in
-    let place : first.index + suc n ≡ first.index + 1 + n = omega arith in
-    rw (less, place) (ap (λ rest. Some first ∷ rest) (run_from-more (record first { index = first.index + 1 }) n))
+    let place : index + suc n ≡ index + 1 + n = omega arith in
+    rw (less, place) (ap (λ rest. Some (record { prov = prov; index = index }) ∷ rest) (fragments_from-more prov (index + 1) n))
 
 pub replicate-more : {A : Type 0} (n : ℕ) (x : A) → replicate (n + 1) x ≡ replicate n x ++ x ∷ []
 replicate-more zero x = refl
@@ -37,7 +38,7 @@ length-zip (x ∷ xs) (y ∷ ys) e = omega (arith, length-zip xs ys (omega arith
 -- a run with its next fragment
 pub run_of-next : (len : ℕ) (first next : Frag) → next.prov.alloc.0 ≡ first.prov.alloc.0 → next.prov.tag.0 ≡ first.prov.tag.0 → next.index ≡ first.index + len → run_of (len + 1) (Some first) ≡ run_of len (Some first) ++ Some next ∷ []
 run_of-next len first next alloc tag place =
-    run_from-more first len ∙ ap (λ (f : Frag). run_from first len ++ Some f ∷ []) (let e : ◌≡◌ {A = Frag} (record { prov = first.prov; index = first.index + len }) next = rw (sym alloc, sym tag, sym place) refl in e)
+    fragments_from-more first.prov first.index len ∙ ap (λ (f : Frag). fragments_from first.prov first.index len ++ Some f ∷ []) (let e : ◌≡◌ {A = Frag} (record { prov = first.prov; index = first.index + len }) next = rw (sym alloc, sym tag, sym place) refl in e)
 
 pub run_of-none : (len : ℕ) → run_of (len + 1) None ≡ run_of len None ++ None ∷ []
 run_of-none len = replicate-more {A = Option Frag} len None

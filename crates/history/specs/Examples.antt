@@ -9,17 +9,18 @@ use Rattle.perm_table.specs.declared.RetagKind.TheVariants.{Mut, Cell, Shr, Boxe
 use Rattle.perm_table.specs.declared.Guard.TheVariants.{Free as Unguarded, Weak, Strong}
 use Rattle.eager_tree.specs.declared.violation.Violation.TheVariants.{Denied, StrongFree, Stranger, OutOfRange}
 use Rattle.ir_ast.specs.declared.types.Place.TheVariants.{Stack, Heap}
+use Rattle.ir_ast.specs.declared.operators.ModifyOp.TheVariants.{Add}
 use Rattle.ir_ast.specs.declared.types.Width.TheVariants.{W8, W32, W64}
 use Rattle.ir_ast.specs.declared.types.Ty.TheVariants.{Int, Ptr}
 use Rattle.history.specs.declared.trap.Trap.{Trap}
 use Rattle.history.specs.declared.trap.Trap.TheVariants.{NoAllocation, OutOfBounds, Freed, BadFree}
 use Rattle.history.specs.declared.entry.Request.{Request}
-use Rattle.history.specs.declared.entry.Request.TheVariants.{Make, Load, Store, CopyOut, CopyIn, Retag, EndProtector, Free}
+use Rattle.history.specs.declared.entry.Request.TheVariants.{Make, Load, Store, Modify, CmpXchg, CopyOut, CopyIn, Retag, EndProtector, Free}
 use Rattle.history.specs.declared.entry.Plain.TheVariants.{Made, Value, Copied, Done, Retagged, Trapped}
 use Rattle.history.specs.declared.entry.Verdict.{Verdict}
 use Rattle.history.specs.declared.entry.Verdict.TheVariants.{Clean, Closed, Violated}
 use Rattle.history.specs.declared.entry.Reply.{Reply}
-use Rattle.history.specs.Fragments.{fragments_from}
+use Rattle.history.specs.Pieces.{fragments_from}
 use Rattle.history.specs.Objects.{Object, answer}
 
 -- a request with the stamp of its step
@@ -350,6 +351,69 @@ no_tag_steps =
 
 abbrev pub no_tag_replies : List Reply
 no_tag_replies = made 1 1 ∷ done (Violated Stranger) ∷ done Closed ∷ []
+
+-- A read-modify-write answers what it found, wraps at its width, and takes the provenance of the
+-- pointer whose byte it writes.
+abbrev pub modified_steps : List Step
+modified_steps =
+    (1, Make 8 Heap)
+    ∷ (2, Store 0 Ptr 4294967296 (via 1 1) (via 1 1))
+    ∷ (3, Modify 0 W8 Add 255 (via 1 1))
+    ∷ (4, Modify 0 W8 Add 2 (via 1 1))
+    ∷ (5, Load 0 Ptr (via 1 1))
+    ∷ (6, Free 0 false (via 1 1))
+    ∷ []
+
+abbrev pub modified_replies : List Reply
+modified_replies =
+    made 1 1
+    ∷ done Clean
+    ∷ value 0 Clean
+    ∷ value 255 Clean
+    ∷ pointer 4294967297 None
+    ∷ done Clean
+    ∷ []
+
+-- A compare-exchange that finds another value leaves bytes and fragments; one that finds its own
+-- writes, and takes the provenance.
+abbrev pub exchanged_steps : List Step
+exchanged_steps =
+    (1, Make 8 Heap)
+    ∷ (2, Store 0 Ptr 4294967296 (via 1 1) (via 1 1))
+    ∷ (3, CmpXchg 0 W64 0 7 (via 1 1))
+    ∷ (4, Load 0 Ptr (via 1 1))
+    ∷ (5, CmpXchg 0 W64 4294967296 7 (via 1 1))
+    ∷ (6, Load 0 Ptr (via 1 1))
+    ∷ (7, Free 0 false (via 1 1))
+    ∷ []
+
+abbrev pub exchanged_replies : List Reply
+exchanged_replies =
+    made 1 1
+    ∷ done Clean
+    ∷ value 4294967296 Clean
+    ∷ pointer 4294967296 (via 1 1)
+    ∷ value 4294967296 Clean
+    ∷ pointer 7 None
+    ∷ done Clean
+    ∷ []
+
+-- To the tree it is a write, also where it finds another value.
+abbrev pub shared_exchange_steps : List Step
+shared_exchange_steps =
+    (1, Make 8 Stack)
+    ∷ (2, Retag 0 8 Shr Unguarded (via 1 1))
+    ∷ (3, CmpXchg 0 W64 1 7 (via 1 2))
+    ∷ (4, Load 0 (Int W64) (via 1 1))
+    ∷ []
+
+abbrev pub shared_exchange_replies : List Reply
+shared_exchange_replies =
+    made 1 1
+    ∷ retagged 1 2
+    ∷ value 0 (Violated (Denied 0 (node 2) Frozen true))
+    ∷ value 0 Closed
+    ∷ []
 
 -- After a free a load traps, as does a second free.
 abbrev pub freed_steps : List Step

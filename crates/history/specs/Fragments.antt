@@ -1,5 +1,5 @@
 -- Fragments of stored pointers, one optional fragment a byte.
-use Rattle.std.specs.Prelude.{ℕ, zero, suc, ◌+◌, ◌==◌, ◌&&◌, Bool, true, false, Option, Some, None, List, [], ◌∷◌, map, replicate, if◌then◌else◌}
+use Rattle.std.specs.Prelude.{ℕ, ◌+◌, ◌==◌, ◌&&◌, Bool, true, false, Option, Some, None, List, [], ◌∷◌, map, replicate, if◌then◌else◌}
 use Rattle.std.specs.List.{zip}
 use Rattle.bsan_ids.specs.declared.numbers.Prov.{Prov}
 use Rattle.bsan_ids.specs.declared.numbers.Frag.{Frag}
@@ -8,16 +8,11 @@ use Rattle.ir_ast.specs.declared.types.Ty.TheVariants.{Int, Ptr}
 use Rattle.history.specs.declared.entry.Request.{Request}
 use Rattle.history.specs.declared.entry.Request.TheVariants.{Store, Modify, CmpXchg, CopyIn}
 use Rattle.ir_ast.specs.Words.{width_bytes}
+use Rattle.history.specs.Pieces.{Byte, fragments_from}
 use Rattle.history.specs.Memory.{Memory, in_range, put, word_at}
 
 abbrev pub Shadow : Type 0
 Shadow = List (Option Frag)
-
--- the fragments of a provenance, from an index on
-abbrev pub fragments_from : Prov → ℕ → ℕ → Shadow
-fragments_from prov index zero = []
-fragments_from prov index (suc more) =
-    Some (record { prov = prov; index = index }) ∷ fragments_from prov (index + 1) more
 
 -- what a stored pointer leaves in its eight bytes
 abbrev pub stored : Option Prov → Shadow
@@ -57,5 +52,5 @@ next_shadow m frags (CopyIn at piece prov) = put at (map (λ pair. pair.1) piece
 next_shadow m frags _ = frags
 
 -- the bytes that a copy takes with it
-abbrev pub piece_at : Memory → Shadow → ℕ → ℕ → List (ℕ × Option Frag)
+abbrev pub piece_at : Memory → Shadow → ℕ → ℕ → List Byte
 piece_at m frags at len = zip (in_range at len m.bytes) (in_range at len frags)

@@ -1,6 +1,7 @@
 -- Plain memory of one allocation: its bytes, whether it is live, and its place.
 use Rattle.std.specs.Prelude.{ℕ, ◌+◌, ◌==◌, ◌&&◌, ◌||◌, not, nat_lt, Bool, true, false, Option, Some, None, List, ◌++◌, length, map, take, drop, replicate, if◌then◌else◌}
 use Rattle.bsan_ids.specs.declared.numbers.Span.{Span}
+pub use Rattle.bsan_ids.specs.Lists.{put}
 use Rattle.ir_ast.specs.declared.types.Place.{Place}
 use Rattle.ir_ast.specs.declared.types.Place.TheVariants.{Stack, Heap}
 use Rattle.history.specs.declared.trap.Trap.{Trap}
@@ -52,9 +53,6 @@ trap_in m request =
 
 abbrev pub in_range : {A : Type 0} → ℕ → ℕ → List A → List A
 in_range at len xs = take len (drop at xs)
-
-abbrev pub put : {A : Type 0} → ℕ → List A → List A → List A
-put at new xs = take at xs ++ new ++ drop (at + length new) xs
 
 abbrev pub word_at : Memory → ℕ → ℕ → ℕ
 word_at m at len = word_of (in_range at len m.bytes)

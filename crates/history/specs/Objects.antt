@@ -5,6 +5,8 @@ use Rattle.bsan_ids.specs.declared.numbers.Tag.{Tag}
 use Rattle.bsan_ids.specs.declared.numbers.Stamp.{Stamp}
 use Rattle.bsan_ids.specs.declared.numbers.Prov.{Prov}
 use Rattle.bsan_ids.specs.declared.numbers.Span.{Span}
+use Rattle.perm_table.specs.declared.Guard.{Guard}
+use Rattle.perm_table.specs.declared.RetagKind.{RetagKind}
 use Rattle.perm_table.specs.declared.Kind.{Kind}
 use Rattle.perm_table.specs.declared.Kind.TheVariants.{Read, Write}
 use Rattle.eager_tree.specs.declared.violation.Violation.{Violation}
@@ -148,33 +150,42 @@ make_answer o size memory stamp =
       });
     }
 
--- a retag: Closed, Freed, out of range, Stranger, the denied read, or the new node
-abbrev pub retag_judged : ℕ → Made → Request → ℕ → Judged
-retag_judged number m (Retag at len kind guard prov) stamp =
+-- what a reborrow asks
+pub record Reborrow : Type 0 where
+  pub span : Span
+  pub kind : RetagKind
+  pub guard : Guard
+  pub prov : Option Prov
+
+abbrev pub reborrow : ℕ → ℕ → RetagKind → Guard → Option Prov → Reborrow
+reborrow at len kind guard prov = record { span = record { start = at; len = len }; kind = kind; guard = guard; prov = prov }
+
+-- a reborrow: Closed, Freed, out of range, Stranger, the denied read, or the new node
+abbrev pub retag_judged : ℕ → Made → Reborrow → ℕ → Judged
+retag_judged number m r stamp =
     if m.closed then record { verdict = Closed; tree = m.tree; closed = true }
     else if not m.memory.live then violated m.tree WasFreed
-    else if is_outside (length m.memory.bytes) (record { start = at; len = len }) then violated m.tree OutOfRange
-    else judged number m prov (λ x. retag m.tree x (record { start = at; len = len }) kind guard (record { 0 = stamp }))
-retag_judged number m _ stamp = record { verdict = Clean; tree = m.tree; closed = m.closed }
+    else if is_outside (length m.memory.bytes) r.span then violated m.tree OutOfRange
+    else judged number m r.prov (λ x. retag m.tree x r.span r.kind r.guard (record { 0 = stamp }))
 
 abbrev pub is_clean : Verdict → Bool
 is_clean Clean = true
 is_clean _ = false
 
-abbrev pub retag_done : Object → Made → Request → ℕ → Judged → Answer
-retag_done o m request stamp j =
+abbrev pub retag_done : Object → Made → Reborrow → ℕ → Judged → Answer
+retag_done o m r stamp j =
     record {
       reply = record {
         plain = Retagged (is_clean j.verdict);
-        carried = if is_clean j.verdict then Some (prov_of o.number stamp) else through request;
+        carried = if is_clean j.verdict then Some (prov_of o.number stamp) else r.prov;
         verdict = j.verdict;
       };
       object = with_made o (record m { tree = j.tree; closed = j.closed });
     }
 
-abbrev pub retag_answer : Object → Option Made → Request → ℕ → Answer
-retag_answer o None request stamp = record { reply = clean (Retagged false) None; object = o }
-retag_answer o (Some m) request stamp = retag_done o m request stamp (retag_judged o.number m request stamp)
+abbrev pub retag_answer : Object → Option Made → Reborrow → ℕ → Answer
+retag_answer o None r stamp = record { reply = clean (Retagged false) None; object = o }
+retag_answer o (Some m) r stamp = retag_done o m r stamp (retag_judged o.number m r stamp)
 
 -- the end of a protector: Closed, nothing on a freed allocation or at no node, or the tree's step
 abbrev pub end_judged : Made → Tag → Judged
@@ -197,6 +208,6 @@ end_answer o (Some m) x = end_done o m (end_judged m x)
 -- what the allocation answers to a request with this stamp, and what it then is
 abbrev pub answer : Object → Request → Stamp → Answer
 answer o (Make size place) stamp = make_answer o size (made_memory size place) stamp.0
-answer o (Retag at len kind guard prov) stamp = retag_answer o o.made (Retag at len kind guard prov) stamp.0
+answer o (Retag at len kind guard prov) stamp = retag_answer o o.made (reborrow at len kind guard prov) stamp.0
 answer o (EndProtector tag) stamp = end_answer o o.made tag
 answer o request stamp = data_answer o o.made request

@@ -6,7 +6,7 @@ use Rattle.history.specs.declared.entry.Verdict.{Verdict}
 use Rattle.history.specs.declared.entry.Verdict.TheVariants.{Clean, Closed, Violated}
 use Rattle.history.specs.declared.log.AllocLog.{AllocLog}
 use Rattle.history.specs.declared.record.RunRecord.{RunRecord}
-use Rattle.history.specs.Merge.{stamp_of, put_by_stamp, by_stamp, IsMerge}
+use Rattle.history.specs.Merge.{stamp_of, by_stamp}
 
 -- the entries of all threads, and those of all allocations
 abbrev pub thread_entries : RunRecord → List Entry

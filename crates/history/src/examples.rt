@@ -1,7 +1,7 @@
 //! Worked examples of what an allocation answers.
 ghost use Rattle.std.specs.Prelude.{◌≡◌};
 ghost use Rattle.history.specs.Objects.{unmade};
-ghost use Rattle.history.specs.Examples.{replies, frozen_steps, frozen_replies, shared_steps, shared_replies, two_phase_steps, two_phase_replies, conflicted_steps, conflicted_replies, protected_unique_steps, protected_unique_replies, protected_cell_steps, protected_cell_replies, free_cell_steps, free_cell_replies, box_steps, box_replies, strong_free_steps, strong_free_replies, protector_end_steps, protector_end_replies, out_of_range_steps, out_of_range_replies, stranger_steps, stranger_replies, copied_out_steps, copied_out_replies, copied_in_steps, copied_in_replies, overwritten_steps, overwritten_replies, no_tag_steps, no_tag_replies, freed_steps, freed_replies, stack_steps, stack_replies, unmade_steps, unmade_replies};
+ghost use Rattle.history.specs.Examples.{replies, frozen_steps, frozen_replies, shared_steps, shared_replies, two_phase_steps, two_phase_replies, conflicted_steps, conflicted_replies, protected_unique_steps, protected_unique_replies, protected_cell_steps, protected_cell_replies, free_cell_steps, free_cell_replies, box_steps, box_replies, strong_free_steps, strong_free_replies, protector_end_steps, protector_end_replies, out_of_range_steps, out_of_range_replies, stranger_steps, stranger_replies, copied_out_steps, copied_out_replies, copied_in_steps, copied_in_replies, overwritten_steps, overwritten_replies, no_tag_steps, no_tag_replies, modified_steps, modified_replies, exchanged_steps, exchanged_replies, shared_exchange_steps, shared_exchange_replies, freed_steps, freed_replies, stack_steps, stack_replies, unmade_steps, unmade_replies};
 
 /// Reborrows without a protector.
 pub fn reborrows_by_example()
@@ -29,6 +29,13 @@ pub fn provenances_by_example()
     ensures copied_in { replies (unmade 3) copied_in_steps ≡ copied_in_replies }
     ensures overwritten { replies (unmade 3) overwritten_steps ≡ overwritten_replies }
     ensures no_tag { replies (unmade 1) no_tag_steps ≡ no_tag_replies }
+{}
+
+/// Reads and writes in one step.
+pub fn exchanges_by_example()
+    ensures modified { replies (unmade 1) modified_steps ≡ modified_replies }
+    ensures exchanged { replies (unmade 1) exchanged_steps ≡ exchanged_replies }
+    ensures shared { replies (unmade 1) shared_exchange_steps ≡ shared_exchange_replies }
 {}
 
 /// Requests that trap.

@@ -2,7 +2,9 @@
 #![tactic(auto)]
 
 mod ask;
+mod copies;
 mod entry;
+mod equality;
 mod examples;
 mod log;
 mod logged;
@@ -18,12 +20,13 @@ mod trap;
 pub use ask::{Arg, Ask, MachineEnd};
 pub use entry::{Entry, Plain, Reply, Request, Verdict};
 pub use examples::{
-    protectors_by_example, provenances_by_example, reborrows_by_example, traps_by_example,
+    exchanges_by_example, protectors_by_example, provenances_by_example, reborrows_by_example,
+    traps_by_example,
 };
 pub use log::{AllocLog, End, ThreadLog};
 pub use logged::Logged;
 pub use merge::{append_copies, merge_by_stamp, sort_by_stamp};
-pub use piece::Piece;
+pub use piece::{Piece, PieceBuffer};
 pub use record::RunRecord;
 pub use restriction::of_thread;
 pub use trap::Trap;

@@ -1,7 +1,7 @@
 //! The logs of threads and of allocations.
-use bsan_ids::{AllocNo, ListOf, Prov, Stamp, ThreadNo};
 use crate::entry::Entry;
 use crate::trap::Trap;
+use bsan_ids::{AllocNo, ListOf, Prov, Stamp, ThreadNo};
 
 /// How a thread ended.
 #[derive(Clone, Copy, Debug, PartialEq, Eq)]

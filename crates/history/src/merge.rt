@@ -3,7 +3,7 @@ ghost use Rattle.std.specs.Prelude.{◌≡◌, ◌++◌, take, vec_len, IfOk, On
 ghost use Rattle.history.specs.Merge.{CanMerge, IsMerge, by_stamp};
 
 use crate::entry::Entry;
-use bsan_ids::NoMemory;
+use bsan_ids::{Copied, NoMemory};
 
 fn push_copies(into: &mut Vec<Entry>, entries: &[Entry]) -> Result<(), NoMemory>
     ensures grown { OnOk result (into.new.items ≡ into.old.items ++ entries.now) }
@@ -19,7 +19,7 @@ fn push_copies(into: &mut Vec<Entry>, entries: &[Entry]) -> Result<(), NoMemory>
 ///
 /// # Errors
 ///
-/// `NoMemory`: want of memory; then `into` is as before.
+/// `NoMemory`: out of memory; then `into` is as before.
 pub fn append_copies(into: &mut Vec<Entry>, entries: &[Entry]) -> Result<(), NoMemory>
     ensures grown { OnOk result (into.new.items ≡ into.old.items ++ entries.now) }
     ensures kept { OnErr result (into.new.items ≡ into.old.items) }
@@ -36,7 +36,7 @@ pub fn append_copies(into: &mut Vec<Entry>, entries: &[Entry]) -> Result<(), NoM
 ///
 /// # Errors
 ///
-/// `NoMemory`: want of memory; then the entries are as before.
+/// `NoMemory`: out of memory; then the entries are as before.
 pub fn sort_by_stamp(entries: &mut Vec<Entry>) -> Result<(), NoMemory>
     ensures sorted { OnOk result (entries.new.items ≡ by_stamp entries.old.items) }
     ensures kept { OnErr result (entries.new.items ≡ entries.old.items) }
@@ -50,7 +50,7 @@ pub fn sort_by_stamp(entries: &mut Vec<Entry>) -> Result<(), NoMemory>
 ///
 /// # Errors
 ///
-/// `NoMemory`: want of memory; then `into` holds what it held.
+/// `NoMemory`: out of memory; then `into` is as before.
 #[tactic(auto, using(crate::proofs::Distinct::merges))]
 pub fn merge_by_stamp(into: &mut Vec<Entry>, more: &[Entry]) -> Result<(), NoMemory>
     requires { CanMerge into.old.items more.now }

@@ -6,12 +6,11 @@ ghost use Rattle.history.specs.Merge.{IsMerge};
 ghost use Rattle.history.specs.Records.{HasDistinctStamps, thread_entries, first_found, violates, has_violation, first_violation};
 ghost use Rattle.history.specs.Records as records;
 
-use crate::log::{AllocLog, ThreadLog};
-use crate::record::RunRecord;
-use bsan_ids::NoMemory;
 use crate::entry::{Entry, Verdict};
+use crate::log::{AllocLog, ThreadLog};
 use crate::merge::{append_copies, sort_by_stamp};
-use std::alloc::Global;
+use crate::record::RunRecord;
+use bsan_ids::{Copied, ListOf, NoMemory};
 
 fn is_violation(entry: &Entry) -> bool
     ensures { result ≡ violates entry.now }
@@ -38,21 +37,21 @@ impl AllocLog {
     }
 }
 
-fn entries_of(alloc: Global, logs: &[ThreadLog]) -> Result<Vec<Entry>, NoMemory>
+fn entries_of(logs: &ListOf<ThreadLog>) -> Result<Vec<Entry>, NoMemory>
     ensures { IfOk result (λ v. v.items ≡ flat_map (λ log. log.entries) logs.now) }
 {
-    let mut entries = Vec::new(alloc);
-    for log in logs {
+    let mut entries = logs.fresh().into_vec();
+    for log in logs.as_slice() {
         append_copies(&mut entries, log.entries.as_slice())?;
     }
     Ok(entries)
 }
 
-fn violations_of(alloc: Global, logs: &[AllocLog]) -> Result<Vec<Entry>, NoMemory>
+fn violations_of(logs: &ListOf<AllocLog>) -> Result<Vec<Entry>, NoMemory>
     ensures { IfOk result (λ v. v.items ≡ filter_map first_violation logs.now) }
 {
-    let mut found = Vec::new(alloc);
-    for log in logs {
+    let mut found = logs.fresh().into_vec();
+    for log in logs.as_slice() {
         if let Some(entry) = log.first_violation() {
             found.push(entry.copy()?)?;
         }
@@ -65,13 +64,13 @@ impl RunRecord {
     ///
     /// # Errors
     ///
-    /// `NoMemory`: want of memory.
-    pub fn merged(&self, alloc: Global) -> Result<Vec<Entry>, NoMemory>
+    /// `NoMemory`: out of memory.
+    pub fn merged(&self) -> Result<Vec<Entry>, NoMemory>
         requires { HasDistinctStamps self.now }
         ensures merged { IfOk result (λ v. v.items ≡ records.merged self.now) }
         ensures order { IfOk result (λ v. IsMerge (thread_entries self.now) v.items) }
     {
-        let mut entries = entries_of(alloc, self.threads.as_slice())?;
+        let mut entries = entries_of(&self.threads)?;
         sort_by_stamp(&mut entries)?;
         Ok(entries)
     }
@@ -81,13 +80,13 @@ impl RunRecord {
     ///
     /// # Errors
     ///
-    /// `NoMemory`: want of memory.
-    pub fn first_violations(&self, alloc: Global) -> Result<Vec<Entry>, NoMemory>
+    /// `NoMemory`: out of memory.
+    pub fn first_violations(&self) -> Result<Vec<Entry>, NoMemory>
         requires { HasDistinctStamps self.now }
         ensures found { IfOk result (λ v. v.items ≡ records.first_violations self.now) }
         ensures order { IfOk result (λ v. IsMerge (first_found self.now) v.items) }
     {
-        let mut found = violations_of(alloc, self.allocs.as_slice())?;
+        let mut found = violations_of(&self.allocs)?;
         sort_by_stamp(&mut found)?;
         Ok(found)
     }

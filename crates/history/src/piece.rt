@@ -1,8 +1,8 @@
 //! A piece of at most 32 bytes with their fragments, which are kept as runs.
-ghost use Rattle.std.specs.Prelude.{◌≡◌, ◌+◌, ◌<◌, ◌≤◌, [], ◌∷◌, ◌++◌, length, slice_get, Some, All, IfOk, OnOk, OnErr, vec_len, vec_capacity, true};
+ghost use Rattle.std.specs.Prelude.{◌≡◌, ◌+◌, ◌<◌, ◌≤◌, [], ◌∷◌, ◌++◌, length, slice_get, Some, All, IfOk, OnOk, OnErr, IsTrue, ◌↔◌, vec_len, vec_capacity, true};
 ghost use Rattle.history.specs.Pieces.{run_of, fragments_of, IsSmall};
 
-use bsan_ids::{Frag, NoMemory};
+use bsan_ids::{Copied, Frag, NoMemory};
 use std::alloc::Global;
 use std::marker::Model;
 
@@ -93,6 +93,7 @@ fn push_fragment(runs: &mut Vec<Run>, frag: Option<Frag>)
     requires short { length (fragments_of runs.old.items) < 32 }
     requires small { All IsSmall runs.old.items }
     ensures fragments { fragments_of runs.new.items ≡ fragments_of runs.old.items ++ frag ∷ [] }
+    ensures few { length runs.new.items ≤ length runs.old.items + 1 }
     ensures small { All IsSmall runs.new.items }
 {
     let next = Run {
@@ -147,7 +148,7 @@ impl Piece {
     ///
     /// # Errors
     ///
-    /// `NoMemory`: want of memory. The piece stays as it was.
+    /// `NoMemory`: out of memory; then the piece is as before.
     pub fn push(&mut self, byte: u8, frag: Option<Frag>) -> Result<(), NoMemory>
         requires { length self.old < 32 }
         ensures ok { OnOk result (self.new ≡ self.old ++ (byte, frag) ∷ []) }
@@ -160,12 +161,98 @@ impl Piece {
         Ok(())
     }
 
-    /// The same piece once more, with memory of its own.
+    /// Whether the other piece has the same bytes with the same fragments.
+    pub fn equals(&self, other: &Piece) -> bool
+        ensures { IsTrue result ↔ (self.now ≡ other.now) }
+    {
+        if self.len() != other.len() {
+            return false;
+        }
+        for at in 0..self.len() {
+            if self.get(at) != other.get(at) {
+                return false;
+            }
+        }
+        true
+    }
+}
+
+impl Copied for Piece {
+    fn copy(&self) -> Result<Piece, NoMemory> {
+        let alloc = *self.bytes.allocator();
+        Ok(Piece {
+            bytes: Vec::from_slice(alloc, &self.bytes)?,
+            runs: Vec::from_slice(alloc, &self.runs)?,
+        })
+    }
+}
+
+/// The greatest number of bytes of a piece, and so of its runs.
+const MOST_BYTES: usize = 32;
+
+/// A piece with room for as many bytes and runs as a piece can have, so that it takes no memory to
+/// become another piece.
+#[derive(Debug, Drop)]
+pub struct PieceBuffer {
+    bytes: Vec<u8>,
+    runs: Vec<Run>,
+}
+
+impl Model for PieceBuffer {
+    ghost use Rattle.std.specs.Prelude.{List, ℕ, Option, ◌≡◌, ◌≤◌, length, zip, vec_capacity};
+    ghost use Rattle.bsan_ids.specs.declared.numbers.Frag.{Frag};
+
+    ghost Value = { List (ℕ × Option Frag) };
+
+    ghost use Rattle.history.specs.Pieces.{fragments_of, IsRuns};
+
+    ghost view = { λ p. zip p.bytes.items (fragments_of p.runs.items) };
+
+    ghost invariant = { λ p. IsRuns p.bytes.items p.runs.items × ((32 ≤ vec_capacity p.bytes) × (32 ≤ vec_capacity p.runs)) };
+}
+
+/// Puts these items in place of those that are there, where there is room.
+fn refill<T: Copy + Drop>(into: &mut Vec<T>, items: &[T])
+    requires room { length items.now ≤ vec_capacity into.old }
+    ensures items { into.new.items ≡ items.now }
+    ensures room { vec_capacity into.old ≤ vec_capacity into.new }
+{
+    into.clear();
+    match into.extend_from_slice(items) {
+        Ok(()) => {}
+        Err(_) => unreachable!(),
+    }
+}
+
+impl PieceBuffer {
+    /// A piece of no byte, with room for any other.
     ///
     /// # Errors
     ///
-    /// `NoMemory`: want of memory.
-    pub fn copy(&self) -> Result<Piece, NoMemory>
+    /// `NoMemory`: out of memory.
+    pub fn new(alloc: Global) -> Result<PieceBuffer, NoMemory>
+        ensures { IfOk result (λ buffer. buffer ≡ []) }
+    {
+        Ok(PieceBuffer {
+            bytes: Vec::with_capacity(alloc, MOST_BYTES)?,
+            runs: Vec::with_capacity(alloc, MOST_BYTES)?,
+        })
+    }
+
+    /// Becomes the other piece, and keeps its room. It takes no memory.
+    pub fn assign(&mut self, piece: &Piece)
+        ensures { self.new ≡ piece.now }
+    {
+        refill(&mut self.bytes, &piece.bytes);
+        refill(&mut self.runs, &piece.runs);
+    }
+
+    /// The piece that it holds, with memory of its own.
+    ///
+    /// # Errors
+    ///
+    /// `NoMemory`: out of memory.
+    pub fn to_piece(&self) -> Result<Piece, NoMemory>
         ensures { IfOk result (λ piece. piece ≡ self.now) }
     {
         let alloc = *self.bytes.allocator();

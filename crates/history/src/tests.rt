@@ -1,7 +1,7 @@
 ghost use Rattle.std.specs.Prelude.{◌≡◌, IfOk};
 
 use super::*;
-use bsan_ids::{AllocNo, Stamp, ThreadNo};
+use bsan_ids::{AllocNo, Copied, Stamp, ThreadNo};
 use std::alloc::Global;
 use std::test::Fail;
 
@@ -52,5 +52,38 @@ fn entries_merge_by_stamp(rt: HostRuntime) -> Result<(), Fail> {
     assert_eq!(rt; entries.len(), 2);
     assert_eq!(rt; entries.first().map(|entry| entry.stamp), Some(Stamp(4)));
     assert_eq!(rt; entries.last().map(|entry| entry.stamp), Some(Stamp(6)));
+    Ok(())
+}
+
+fn is_moved_and_shared<T: Send + Sync>(value: &T) -> bool {
+    let _ = value;
+    true
+}
+
+#[test]
+fn what_threads_hand_over_is_moved_and_shared(rt: HostRuntime) -> Result<(), Fail> {
+    let entry = copied_in(rt.alloc(), 4, 0)?;
+    assert!(rt; is_moved_and_shared(&entry));
+    assert!(rt; is_moved_and_shared(&entry.request));
+    assert!(rt; is_moved_and_shared(&RunRecord::new(rt.alloc())));
+    Ok(())
+}
+
+#[test]
+fn entries_are_compared(rt: HostRuntime) -> Result<(), Fail> {
+    let entry = copied_in(rt.alloc(), 4, 0)?;
+    assert!(rt; entry.equals(&entry.copy()?));
+    assert!(rt; !entry.equals(&copied_in(rt.alloc(), 5, 0)?));
+    Ok(())
+}
+
+#[test]
+fn a_buffer_becomes_a_piece(rt: HostRuntime) -> Result<(), Fail> {
+    let mut piece = Piece::new(rt.alloc());
+    piece.push(7, None)?;
+    piece.push(8, None)?;
+    let mut buffer = PieceBuffer::new(rt.alloc())?;
+    buffer.assign(&piece);
+    assert!(rt; buffer.to_piece()?.equals(&piece));
     Ok(())
 }

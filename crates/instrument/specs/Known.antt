@@ -1,4 +1,4 @@
--- Programs of which each name that is used is defined.
+-- Programs of which each name that is used is defined. The definitions of the crates above cite these facts of frames.
 use Rattle.std.specs.Prelude.{◌<◌, List, length, IfSome}
 use Rattle.ir_ast.specs.Tokens.{Each}
 use Rattle.ir_ast.specs.Shapes.{FitsDestination}

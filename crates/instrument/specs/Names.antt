@@ -6,7 +6,7 @@ use Rattle.ir_ast.specs.Tokens.{Each}
 use Rattle.ir_ast.specs.declared.program.Op.{Op}
 use Rattle.ir_ast.specs.declared.program.Op.TheVariants as op
 use Rattle.ir_ast.specs.declared.program.Jump.{Jump}
-use Rattle.ir_ast.specs.declared.program.Jump.TheVariants.{Br, CondBr}
+use Rattle.ir_ast.specs.declared.program.Jump.TheVariants.{Br, CondBr, Ret, Unreachable}
 use Rattle.ir_ast.specs.declared.program.Block.{Block}
 use Rattle.ir_ast.specs.declared.program.Function.{Function}
 use Rattle.ir_ast.specs.declared.program.Program.{Program}
@@ -26,12 +26,32 @@ Numbered xs = length xs < 2 ^ 32
 abbrev pub OpNumbered : Op → Type 0
 OpNumbered (op.Call result function args) = Numbered args
 OpNumbered (op.Spawn function args) = Numbered args
-OpNumbered _ = Unit {0}
+OpNumbered (op.Const width value) = Unit {0}
+OpNumbered op.Null = Unit {0}
+OpNumbered (op.Make place size) = Unit {0}
+OpNumbered (op.Gep ptr add) = Unit {0}
+OpNumbered (op.Load ty ptr) = Unit {0}
+OpNumbered (op.Store ty val ptr) = Unit {0}
+OpNumbered (op.Retag kind ptr size) = Unit {0}
+OpNumbered (op.Binary o width a b) = Unit {0}
+OpNumbered (op.Compare cond ty a b) = Unit {0}
+OpNumbered (op.Select ty cond a b) = Unit {0}
+OpNumbered (op.Cast o from to val to_at) = Unit {0}
+OpNumbered (op.PtrToInt ptr) = Unit {0}
+OpNumbered (op.Input index) = Unit {0}
+OpNumbered (op.Modify o width ptr val) = Unit {0}
+OpNumbered (op.CmpXchg width ptr expected val) = Unit {0}
+OpNumbered (op.Copy to from len) = Unit {0}
+OpNumbered (op.Free ptr) = Unit {0}
+OpNumbered (op.Print width val) = Unit {0}
+OpNumbered (op.Host result host args) = Unit {0}
+OpNumbered (op.Join result ty_at handle) = Unit {0}
 
 abbrev pub JumpNumbered : Jump → Type 0
 JumpNumbered (Br goal) = Numbered goal.args
 JumpNumbered (CondBr cond first second) = Numbered first.args × Numbered second.args
-JumpNumbered _ = Unit {0}
+JumpNumbered (Ret val ty_at) = Unit {0}
+JumpNumbered Unreachable = Unit {0}
 
 pub record BlockNumbered (b : Block) : Type 0 where
   pub params : Numbered b.params

@@ -1,4 +1,9 @@
--- The translation of a program to target code. Each list of lines is built in front of the lines that follow it.
+-- The translation of a program to target code.
+--
+-- A definition of lines takes the lines that follow them as its last argument, and builds its own in front: `op_lines x op to ls`
+-- are the lines of the operation and then ls. So the first line of a block's rest computes from the instruction alone, with
+-- nothing to append and no law of appending, wherever two neighbouring lines are compared (well-formed code) or the next line
+-- is run (the threads over target code). To read a definition as a table of lines, leave out the last ls.
 use Rattle.std.specs.Prelude.{ℕ, ◌+◌, List, [], ◌∷◌, Option, Some, None, map, length, slice_get}
 use Rattle.std.specs.Option.{option_flatten}
 use Rattle.perm_table.specs.declared.Guard.TheVariants.{Free}

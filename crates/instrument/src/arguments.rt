@@ -6,8 +6,9 @@ ghost use Rattle.instrument.specs.Translation as translation;
 ghost use Rattle.instrument.specs.Names.{Numbered, BlockNumbered};
 ghost use Rattle.ir_ast.specs.Tokens.{Each};
 ghost use Rattle.instrument.specs.Lines.{Adds};
+ghost use Rattle.instrument.specs.Sources.{AddsParam, source_lines};
 
-use crate::operands::{operand, put_for_ptr, shadow};
+use crate::operands::{operand, put_with_shadow, shadow};
 use crate::scope::Scope;
 use bsan_ids::{ListOf, NoMemory};
 use ir_ast::{Attr, Goal, Param, Ty, TypedVal};
@@ -23,17 +24,13 @@ fn put_arg(
 ) -> Result<(), NoMemory>
     ensures { OnOk result (Adds code.old code.new (λ ls. line.Arg index (operand_of scope.now arg.now.val) ∷ for_ptr arg.now.ty (line.ShadowArg index (shadow_of scope.now arg.now.val)) ls)) }
 {
-    code.push(Line::Arg {
-        index,
-        value: operand(scope, &arg.val),
-    })?;
-    put_for_ptr(
+    let value = operand(scope, &arg.val);
+    let from = shadow(scope, &arg.val);
+    put_with_shadow(
         code,
         arg.ty,
-        Line::ShadowArg {
-            index,
-            from: shadow(scope, &arg.val),
-        },
+        Line::Arg { index, value },
+        Line::ShadowArg { index, from },
     )
 }
 
@@ -42,44 +39,65 @@ pub fn put_args(code: &mut ListOf<Line>, scope: &Scope, args: &[TypedVal]) -> Re
     requires { Numbered args.now }
     ensures { OnOk result (Adds code.old code.new (arg_lines scope.now 0 args.now)) }
 {
-    let mut index = 0u32;
-    for arg in args {
-        put_arg(code, scope, index, arg)?;
-        index += 1;
+    for (index, arg) in args.iter().enumerate() {
+        put_arg(code, scope, index as u32, arg)?;
     }
     Ok(())
 }
 
-/// A parameter is taken from the row.
-fn put_take(
+/// Where parameters find their values: those of a function are handed over with its frame, those of a
+/// block are in the row.
+#[derive(Clone, Copy)]
+pub enum Source {
+    Frame,
+    Row,
+}
+
+/// A parameter is given its value.
+fn put_param(
     code: &mut ListOf<Line>,
     scope: &Scope,
+    source: Source,
     index: u32,
     param: &Param,
 ) -> Result<(), NoMemory>
-    ensures { OnOk result (Adds code.old code.new (λ ls. line.TakeArg (translation.slot scope.now param.now.reg) index ∷ for_ptr param.now.ty (line.TakeShadowArg (translation.slot scope.now param.now.reg) index) ls)) }
+    ensures { OnOk result (AddsParam source scope.now index param.now code.old code.new) }
 {
     let slot = scope.slot(&param.reg);
-    code.push(Line::TakeArg { slot, index })?;
-    put_for_ptr(
-        code,
-        param.ty,
-        Line::TakeShadowArg {
-            shadow: slot,
-            index,
-        },
-    )
+    match source {
+        Source::Frame => put_with_shadow(
+            code,
+            param.ty,
+            Line::Param { slot, index },
+            Line::ShadowParam {
+                shadow: slot,
+                index,
+            },
+        ),
+        Source::Row => put_with_shadow(
+            code,
+            param.ty,
+            Line::TakeArg { slot, index },
+            Line::TakeShadowArg {
+                shadow: slot,
+                index,
+            },
+        ),
+    }
 }
 
-/// The parameters of a block are taken from the row.
-fn put_takes(code: &mut ListOf<Line>, scope: &Scope, params: &[Param]) -> Result<(), NoMemory>
+/// Parameters are given their values.
+pub fn put_params(
+    code: &mut ListOf<Line>,
+    scope: &Scope,
+    source: Source,
+    params: &[Param],
+) -> Result<(), NoMemory>
     requires { Numbered params.now }
-    ensures { OnOk result (Adds code.old code.new (take_lines scope.now 0 params.now)) }
+    ensures { OnOk result (Adds code.old code.new (source_lines source scope.now 0 params.now)) }
 {
-    let mut index = 0u32;
-    for param in params {
-        put_take(code, scope, index, param)?;
-        index += 1;
+    for (index, param) in params.iter().enumerate() {
+        put_param(code, scope, source, index as u32, param)?;
     }
     Ok(())
 }
@@ -94,7 +112,7 @@ pub fn put_goal(code: &mut ListOf<Line>, scope: &Scope, goal: &Goal) -> Result<(
 {
     let block = scope.block_number(&goal.label);
     put_args(code, scope, goal.args.as_slice())?;
-    put_takes(code, scope, scope.params(block))?;
+    put_params(code, scope, Source::Row, scope.params(block))?;
     code.push(Line::Jump { block })
 }
 

@@ -7,20 +7,21 @@ ghost use Rattle.instrument.specs.Translation as translation;
 ghost use Rattle.ir_ast.specs.Lines.{block_instructions};
 ghost use Rattle.ir_ast.specs.Numbers.{blocks_end};
 ghost use Rattle.ir_ast.specs.Attributes.{guard_of};
-ghost use Rattle.instrument.specs.Translation.{for_ptr, jump_lines, body_lines, block_lines, blocks_lines, param_lines, entry_retag, entry_retags, entry_lines, function_code, functions_code};
+ghost use Rattle.instrument.specs.Translation.{jump_lines, body_lines, block_lines, blocks_lines, entry_retag, entry_retags, entry_lines, function_code, functions_code};
 ghost use Rattle.instrument.specs.Names.{Numbered, OpNumbered, BlockNumbered, FunctionNumbered, IsNumbered, program_end};
 ghost use Rattle.instrument.specs.Lines.{Adds};
 
-use crate::operands::put_for_ptr;
+use crate::arguments::{Source, put_params};
+use crate::by_name::ByName;
 use crate::operations::{put_inst, put_jump};
 use crate::scope::{Functions, Scope};
-use bsan_ids::{ListOf, NoMemory};
+use bsan_ids::{Copied, ListOf, NoMemory};
 use ir_ast::{Attr, Block, Function, HostEntry, HostTable, Inst, Param, Program};
 use perm_table::{Guard, RetagKind};
 use std::alloc::Global;
 use target_code::{Line, Target, TargetFunction};
 
-/// What guards a parameter while its function runs.
+/// What protects a parameter while its function runs.
 fn guard_of(kind: RetagKind) -> Guard
     ensures { result ≡ guard_of kind }
 {
@@ -28,39 +29,6 @@ fn guard_of(kind: RetagKind) -> Guard
         RetagKind::Boxed | RetagKind::ShrCell => Guard::Weak,
         RetagKind::Mut | RetagKind::Cell | RetagKind::Shr => Guard::Strong,
     }
-}
-
-/// An argument that a call handed over.
-fn put_param(
-    code: &mut ListOf<Line>,
-    scope: &Scope,
-    index: u32,
-    param: &Param,
-) -> Result<(), NoMemory>
-    ensures { OnOk result (Adds code.old code.new (λ ls. line.Param (translation.slot scope.now param.now.reg) index ∷ for_ptr param.now.ty (line.ShadowParam (translation.slot scope.now param.now.reg) index) ls)) }
-{
-    let slot = scope.slot(&param.reg);
-    code.push(Line::Param { slot, index })?;
-    put_for_ptr(
-        code,
-        param.ty,
-        Line::ShadowParam {
-            shadow: slot,
-            index,
-        },
-    )
-}
-
-fn put_params(code: &mut ListOf<Line>, scope: &Scope, params: &[Param]) -> Result<(), NoMemory>
-    requires { Numbered params.now }
-    ensures { OnOk result (Adds code.old code.new (param_lines scope.now 0 params.now)) }
-{
-    let mut index = 0u32;
-    for param in params {
-        put_param(code, scope, index, param)?;
-        index += 1;
-    }
-    Ok(())
 }
 
 /// The retag of a parameter in this slot, if it has an attribute.
@@ -100,7 +68,7 @@ fn entry_code(alloc: Global, scope: &Scope, params: &[Param]) -> Result<ListOf<L
 {
     let mut code = ListOf::new(alloc);
     code.push(Line::PushFrame)?;
-    put_params(&mut code, scope, params)?;
+    put_params(&mut code, scope, Source::Frame, params)?;
     put_entry_retags(&mut code, scope, params)?;
     Ok(code)
 }
@@ -146,8 +114,8 @@ fn block_code(
     Ok(code)
 }
 
-/// The number behind a block's last instruction.
-fn behind(number: u32, block: &Block) -> u32
+/// The number after that of a block's terminator.
+fn after(number: u32, block: &Block) -> u32
     requires { number + block_instructions block.now < 2 ^ 32 }
     ensures { result ≡ number + block_instructions block.now }
 {
@@ -171,12 +139,12 @@ fn blocks_code(
     let mut number = first;
     for block in blocks {
         code.push(block_code(alloc, scope, number, block)?)?;
-        number = behind(number, block);
+        number = after(number, block);
     }
     Ok(code)
 }
 
-/// The number behind the last instruction of blocks whose first instruction has this number.
+/// The number after the last instruction of blocks whose first instruction has this number.
 #[tactic(auto, using(crate::proofs::Ends::end_steps))]
 fn end_of(first: u32, blocks: &[Block]) -> u32
     requires { blocks_end first blocks.now < 2 ^ 32 }
@@ -184,7 +152,7 @@ fn end_of(first: u32, blocks: &[Block]) -> u32
 {
     let mut number = first;
     for block in blocks {
-        number = behind(number, block);
+        number = after(number, block);
     }
     number
 }
@@ -214,13 +182,14 @@ fn function_code(
 /// The target code of a program whose calls of the host are of this table.
 ///
 /// # Errors
-/// Only where memory is wanting.
+///
+/// `NoMemory`: out of memory.
 #[tactic(auto, using(crate::proofs::Ends::end_steps))]
 pub fn translate(alloc: Global, program: &Program, hosts: &HostTable) -> Result<Target, NoMemory>
     requires { IsNumbered hosts.now.entries program.now }
     ensures { IfOk result (λ target. target ≡ translation.translation hosts.now.entries program.now) }
 {
-    let functions = Functions::new(alloc, program.functions.as_slice())?;
+    let functions = ByName::new(alloc, program.functions.as_slice())?;
     let mut code = ListOf::new(alloc);
     let mut number = 0u32;
     for function in program.functions.as_slice() {

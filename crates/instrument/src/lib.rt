@@ -2,6 +2,7 @@
 #![tactic(auto)]
 
 mod arguments;
+mod by_name;
 mod functions;
 mod laws;
 mod names;

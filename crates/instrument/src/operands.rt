@@ -42,19 +42,25 @@ pub fn operands(
     Ok(operands)
 }
 
-/// Adds a line.
-pub fn put(code: &mut ListOf<Line>, line: Line) -> Result<(), NoMemory>
-    ensures { OnOk result (Adds code.old code.new (λ ls. line ∷ ls)) }
-{
-    code.push(line)
-}
-
 /// Adds a line where the type is a pointer's.
 pub fn put_for_ptr(code: &mut ListOf<Line>, ty: Ty, line: Line) -> Result<(), NoMemory>
     ensures { OnOk result (Adds code.old code.new (for_ptr ty line)) }
 {
     match ty {
-        Ty::Ptr => put(code, line),
+        Ty::Ptr => code.push(line),
         Ty::Int(_) => Ok(()),
     }
+}
+
+/// Adds a line, and a second one for the shadow where the type is a pointer's.
+pub fn put_with_shadow(
+    code: &mut ListOf<Line>,
+    ty: Ty,
+    line: Line,
+    shadow_line: Line,
+) -> Result<(), NoMemory>
+    ensures { OnOk result (Adds code.old code.new (λ ls. line ∷ for_ptr ty shadow_line ls)) }
+{
+    code.push(line)?;
+    put_for_ptr(code, ty, shadow_line)
 }

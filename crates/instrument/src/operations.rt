@@ -1,9 +1,9 @@
 //! The lines of instructions and terminators.
 ghost use Rattle.std.specs.Prelude.{◌≡◌, ◌++◌, ◌∷◌, [], ℕ, List, OnOk};
 ghost use Rattle.ir_ast.specs.Tokens.{Each};
-ghost use Rattle.ir_ast.specs.Words.{ty_bytes, width_bytes};
+ghost use Rattle.ir_ast.specs.Words.{ty_bytes};
 ghost use Rattle.perm_table.specs.declared.Guard.TheVariants.{Free};
-ghost use Rattle.ir_ast.specs.declared.types.Ty.TheVariants.{Ptr};
+ghost use Rattle.ir_ast.specs.declared.types.Ty.TheVariants.{Int, Ptr};
 ghost use Rattle.ir_ast.specs.declared.program.Jump.TheVariants.{CondBr};
 ghost use Rattle.target_code.specs.declared.line.Line.TheVariants as line;
 ghost use Rattle.target_code.specs.declared.line.Shadow.TheVariants as shadow;
@@ -12,26 +12,18 @@ ghost use Rattle.instrument.specs.Translation.{operand_of, shadow_of, operands_o
 ghost use Rattle.instrument.specs.Translation as translation;
 ghost use Rattle.instrument.specs.Names.{Numbered, OpNumbered, JumpNumbered, BlockNumbered};
 ghost use Rattle.instrument.specs.Lines.{Adds};
+ghost use Rattle.instrument.specs.Families.{IsComputing, IsMemoryOp, IsCalling};
 
 use crate::arguments::{put_args, put_goal, put_result};
-use crate::operands::{operand, operands, put_for_ptr, shadow};
+use crate::operands::{operand, operands, put_for_ptr, put_with_shadow, shadow};
 use crate::scope::Scope;
 use bsan_ids::{ListOf, NoMemory};
-use ir_ast::{Goal, Inst, Jump, ModifyOp, Named, Op, Ty, TypedVal, Val, Width};
+use ir_ast::{
+    BinaryOp, CastOp, Cond, Goal, Inst, Jump, ModifyOp, Named, Op, Place, Ty, TypedVal, Val, Width,
+};
 use perm_table::{Guard, RetagKind};
 use std::alloc::Global;
-use target_code::{Line, Operand, Shadow, ty_bytes, width_bytes};
-
-/// The check of an access through the pointer in this slot.
-fn check_write(ptr: u32, bytes: u8) -> Line
-    ensures { result ≡ line.CheckWrite ptr ptr bytes }
-{
-    Line::CheckWrite {
-        ptr,
-        ptr_shadow: ptr,
-        bytes,
-    }
-}
+use target_code::{Line, Operand, Shadow};
 
 /// The null pointer.
 fn put_null(code: &mut ListOf<Line>, slot: u32) -> Result<(), NoMemory>
@@ -48,24 +40,14 @@ fn put_null(code: &mut ListOf<Line>, slot: u32) -> Result<(), NoMemory>
     })
 }
 
-fn put_gep(
-    code: &mut ListOf<Line>,
-    scope: &Scope,
-    slot: u32,
-    ptr: &Named,
-    add: &Val,
-) -> Result<(), NoMemory>
-    ensures { OnOk result (Adds code.old code.new (λ ls. line.Gep slot (translation.slot scope.now ptr.now) (operand_of scope.now add.now) ∷ line.ShadowMove slot (shadow.Slot (translation.slot scope.now ptr.now)) ∷ ls)) }
+/// A pointer moved within its allocation: its provenance stays.
+fn put_gep(code: &mut ListOf<Line>, slot: u32, ptr: u32, add: Operand) -> Result<(), NoMemory>
+    ensures { OnOk result (Adds code.old code.new (λ ls. line.Gep slot ptr add ∷ line.ShadowMove slot (shadow.Slot ptr) ∷ ls)) }
 {
-    let from = scope.slot(ptr);
-    code.push(Line::Gep {
-        slot,
-        ptr: from,
-        add: operand(scope, add),
-    })?;
+    code.push(Line::Gep { slot, ptr, add })?;
     code.push(Line::ShadowMove {
         shadow: slot,
-        from: Shadow::Slot(from),
+        from: Shadow::Slot(ptr),
     })
 }
 
@@ -75,10 +57,26 @@ fn put_load(code: &mut ListOf<Line>, slot: u32, ty: Ty, ptr: u32) -> Result<(), 
     code.push(Line::CheckRead {
         ptr,
         ptr_shadow: ptr,
-        bytes: ty_bytes(ty),
+        bytes: ty.bytes(),
     })?;
-    code.push(Line::Load { slot, ty, ptr })?;
-    put_for_ptr(code, ty, Line::Loaded { shadow: slot })
+    put_with_shadow(
+        code,
+        ty,
+        Line::Load { slot, ty, ptr },
+        Line::Loaded { shadow: slot },
+    )
+}
+
+/// A line that writes so many bytes through the pointer in this slot, after its check.
+fn put_write(code: &mut ListOf<Line>, ptr: u32, bytes: u32, write: Line) -> Result<(), NoMemory>
+    ensures { OnOk result (Adds code.old code.new (λ ls. line.CheckWrite ptr ptr bytes ∷ write ∷ ls)) }
+{
+    code.push(Line::CheckWrite {
+        ptr,
+        ptr_shadow: ptr,
+        bytes,
+    })?;
+    code.push(write)
 }
 
 fn put_store(
@@ -90,19 +88,10 @@ fn put_store(
 ) -> Result<(), NoMemory>
     ensures { OnOk result (Adds code.old code.new (λ ls. for_ptr ty (line.Stored (shadow_of scope.now val.now)) (line.CheckWrite ptr ptr (ty_bytes ty) ∷ line.Store ty (operand_of scope.now val.now) ptr ∷ ls))) }
 {
-    put_for_ptr(
-        code,
-        ty,
-        Line::Stored {
-            from: shadow(scope, val),
-        },
-    )?;
-    code.push(check_write(ptr, ty_bytes(ty)))?;
-    code.push(Line::Store {
-        ty,
-        value: operand(scope, val),
-        ptr,
-    })
+    let from = shadow(scope, val);
+    let value = operand(scope, val);
+    put_for_ptr(code, ty, Line::Stored { from })?;
+    put_write(code, ptr, ty.bytes(), Line::Store { ty, value, ptr })
 }
 
 fn put_retag(
@@ -125,90 +114,119 @@ fn put_retag(
     code.push(Line::Move { slot, from: ptr })
 }
 
-fn put_select(
-    code: &mut ListOf<Line>,
-    scope: &Scope,
-    slot: u32,
-    ty: Ty,
-    cond: &Val,
-    a: &Val,
-    b: &Val,
-) -> Result<(), NoMemory>
-    ensures { OnOk result (Adds code.old code.new (λ ls. line.Select slot ty (operand_of scope.now cond.now) (operand_of scope.now a.now) (operand_of scope.now b.now)
-        ∷ for_ptr ty (line.ShadowSelect slot (operand_of scope.now cond.now) (shadow_of scope.now a.now) (shadow_of scope.now b.now)) ls)) }
+fn constant(slot: u32, width: Width, value: u64) -> Line
+    ensures { result ≡ line.Const slot (Int width) value }
 {
-    let cond = operand(scope, cond);
-    code.push(Line::Select {
+    Line::Const {
+        slot,
+        ty: Ty::Int(width),
+        value,
+    }
+}
+
+fn make(slot: u32, place: Place, size: Operand) -> Line
+    ensures { result ≡ line.Make slot slot place size }
+{
+    Line::Make {
+        slot,
+        shadow: slot,
+        place,
+        size,
+    }
+}
+
+fn cast(slot: u32, op: CastOp, from: Width, value: Operand, to: Width) -> Line
+    ensures { result ≡ line.Cast slot op from value to }
+{
+    Line::Cast {
+        slot,
+        op,
+        from,
+        value,
+        to,
+    }
+}
+
+fn print(width: Width, value: Operand) -> Line
+    ensures { result ≡ line.Print width value }
+{
+    Line::Print { width, value }
+}
+
+fn binary(scope: &Scope, slot: u32, op: BinaryOp, width: Width, a: &Val, b: &Val) -> Line
+    ensures { result ≡ line.Binary slot op width (operand_of scope.now a.now) (operand_of scope.now b.now) }
+{
+    Line::Binary {
+        slot,
+        op,
+        width,
+        a: operand(scope, a),
+        b: operand(scope, b),
+    }
+}
+
+fn compare(scope: &Scope, slot: u32, cond: Cond, ty: Ty, a: &Val, b: &Val) -> Line
+    ensures { result ≡ line.Compare slot cond ty (operand_of scope.now a.now) (operand_of scope.now b.now) }
+{
+    Line::Compare {
+        slot,
+        cond,
+        ty,
+        a: operand(scope, a),
+        b: operand(scope, b),
+    }
+}
+
+fn select(scope: &Scope, slot: u32, ty: Ty, cond: Operand, a: &Val, b: &Val) -> Line
+    ensures { result ≡ line.Select slot ty cond (operand_of scope.now a.now) (operand_of scope.now b.now) }
+{
+    Line::Select {
         slot,
         ty,
         cond,
         a: operand(scope, a),
         b: operand(scope, b),
-    })?;
-    put_for_ptr(
-        code,
-        ty,
-        Line::ShadowSelect {
-            shadow: slot,
-            cond,
-            a: shadow(scope, a),
-            b: shadow(scope, b),
-        },
-    )
+    }
 }
 
-fn put_modify(
-    code: &mut ListOf<Line>,
-    scope: &Scope,
-    slot: u32,
-    op: ModifyOp,
-    width: Width,
-    ptr: u32,
-    val: &Val,
-) -> Result<(), NoMemory>
-    ensures { OnOk result (Adds code.old code.new (λ ls. line.CheckWrite ptr ptr (width_bytes width) ∷ line.Modify slot op width ptr (operand_of scope.now val.now) ∷ ls)) }
+fn shadow_select(scope: &Scope, slot: u32, cond: Operand, a: &Val, b: &Val) -> Line
+    ensures { result ≡ line.ShadowSelect slot cond (shadow_of scope.now a.now) (shadow_of scope.now b.now) }
 {
-    code.push(check_write(ptr, width_bytes(width)))?;
-    code.push(Line::Modify {
+    Line::ShadowSelect {
+        shadow: slot,
+        cond,
+        a: shadow(scope, a),
+        b: shadow(scope, b),
+    }
+}
+
+fn modify(scope: &Scope, slot: u32, op: ModifyOp, width: Width, ptr: u32, val: &Val) -> Line
+    ensures { result ≡ line.Modify slot op width ptr (operand_of scope.now val.now) }
+{
+    Line::Modify {
         slot,
         op,
         width,
         ptr,
         value: operand(scope, val),
-    })
+    }
 }
 
-fn put_cmpxchg(
-    code: &mut ListOf<Line>,
-    scope: &Scope,
-    slot: u32,
-    width: Width,
-    ptr: u32,
-    expected: &Val,
-    val: &Val,
-) -> Result<(), NoMemory>
-    ensures { OnOk result (Adds code.old code.new (λ ls. line.CheckWrite ptr ptr (width_bytes width) ∷ line.CmpXchg slot width ptr (operand_of scope.now expected.now) (operand_of scope.now val.now) ∷ ls)) }
+fn cmpxchg(scope: &Scope, slot: u32, width: Width, ptr: u32, expected: &Val, val: &Val) -> Line
+    ensures { result ≡ line.CmpXchg slot width ptr (operand_of scope.now expected.now) (operand_of scope.now val.now) }
 {
-    code.push(check_write(ptr, width_bytes(width)))?;
-    code.push(Line::CmpXchg {
+    Line::CmpXchg {
         slot,
         width,
         ptr,
         expected: operand(scope, expected),
         value: operand(scope, val),
-    })
+    }
 }
 
-fn put_copy(
-    code: &mut ListOf<Line>,
-    scope: &Scope,
-    to: u32,
-    from: u32,
-    len: &Val,
-) -> Result<(), NoMemory>
-    ensures { OnOk result (Adds code.old code.new (λ ls. line.CheckCopy to to from from (operand_of scope.now len.now) ∷ line.Copy to from (operand_of scope.now len.now) ∷ ls)) }
+fn put_copy(code: &mut ListOf<Line>, to: u32, from: u32, len: Operand) -> Result<(), NoMemory>
+    ensures { OnOk result (Adds code.old code.new (λ ls. line.CheckCopy to to from from len ∷ line.Copy to from len ∷ ls)) }
 {
-    let len = operand(scope, len);
     code.push(Line::CheckCopy {
         to,
         to_shadow: to,
@@ -281,27 +299,140 @@ fn put_join(
 
 fn put_host(
     code: &mut ListOf<Line>,
-    scope: &Scope,
     slot: u32,
     ty: Ty,
-    host: &Named,
+    host: u32,
     args: ListOf<Operand>,
 ) -> Result<(), NoMemory>
-    ensures { OnOk result (Adds code.old code.new (λ ls. line.Host slot (translation.host_number scope.now host.now) args ∷ for_ptr ty (line.ShadowMove slot shadow.Nothing) ls)) }
+    ensures { OnOk result (Adds code.old code.new (λ ls. line.Host slot host args ∷ for_ptr ty (line.ShadowMove slot shadow.Nothing) ls)) }
 {
-    code.push(Line::Host {
-        slot,
-        host: scope.host_number(host),
-        args,
-    })?;
-    put_for_ptr(
+    put_with_shadow(
         code,
         ty,
+        Line::Host { slot, host, args },
         Line::ShadowMove {
             shadow: slot,
             from: Shadow::Nothing,
         },
     )
+}
+
+/// An operation that computes a value or prints one, whose result goes to this slot.
+fn put_computing(
+    code: &mut ListOf<Line>,
+    scope: &Scope,
+    op: &Op,
+    to: Option<u32>,
+) -> Result<(), NoMemory>
+    requires { IsComputing op.now }
+    ensures { OnOk result (Adds code.old code.new (op_lines scope.now op.now to)) }
+{
+    let slot = to.unwrap_or(0);
+    match op {
+        Op::Const { width, value } => code.push(constant(slot, *width, *value)),
+        Op::Null => put_null(code, slot),
+        Op::Gep { ptr, add } => put_gep(code, slot, scope.slot(ptr), operand(scope, add)),
+        Op::Binary { op, width, a, b } => code.push(binary(scope, slot, *op, *width, a, b)),
+        Op::Compare { cond, ty, a, b } => code.push(compare(scope, slot, *cond, *ty, a, b)),
+        Op::Select { ty, cond, a, b } => {
+            let cond = operand(scope, cond);
+            let line = select(scope, slot, *ty, cond, a, b);
+            put_with_shadow(code, *ty, line, shadow_select(scope, slot, cond, a, b))
+        }
+        Op::Cast {
+            op,
+            from,
+            to,
+            val,
+            ..
+        } => code.push(cast(slot, *op, *from, operand(scope, val), *to)),
+        Op::PtrToInt { ptr } => {
+            let ptr = scope.slot(ptr);
+            code.push(Line::PtrToInt { slot, ptr })
+        }
+        Op::Input { index } => {
+            let index = operand(scope, index);
+            code.push(Line::Input { slot, index })
+        }
+        Op::Print { width, val } => code.push(print(*width, operand(scope, val))),
+        _ => Ok(()),
+    }
+}
+
+/// An operation on an allocation, whose result goes to this slot.
+fn put_memory_op(
+    code: &mut ListOf<Line>,
+    scope: &Scope,
+    op: &Op,
+    to: Option<u32>,
+) -> Result<(), NoMemory>
+    requires { IsMemoryOp op.now }
+    ensures { OnOk result (Adds code.old code.new (op_lines scope.now op.now to)) }
+{
+    let slot = to.unwrap_or(0);
+    match op {
+        Op::Make { place, size } => code.push(make(slot, *place, operand(scope, size))),
+        Op::Load { ty, ptr } => put_load(code, slot, *ty, scope.slot(ptr)),
+        Op::Store { ty, val, ptr } => put_store(code, scope, *ty, val, scope.slot(ptr)),
+        Op::Retag { kind, ptr, size } => put_retag(code, slot, *kind, scope.slot(ptr), *size),
+        Op::Modify {
+            op,
+            width,
+            ptr,
+            val,
+        } => {
+            let ptr = scope.slot(ptr);
+            let line = modify(scope, slot, *op, *width, ptr, val);
+            put_write(code, ptr, width.bytes(), line)
+        }
+        Op::CmpXchg {
+            width,
+            ptr,
+            expected,
+            val,
+        } => {
+            let ptr = scope.slot(ptr);
+            let line = cmpxchg(scope, slot, *width, ptr, expected, val);
+            put_write(code, ptr, width.bytes(), line)
+        }
+        Op::Copy { to, from, len } => put_copy(
+            code,
+            scope.slot(to),
+            scope.slot(from),
+            operand(scope, len),
+        ),
+        Op::Free { ptr } => put_free(code, scope.slot(ptr)),
+        _ => Ok(()),
+    }
+}
+
+/// A call, a spawn or a join, whose result goes to this slot.
+fn put_calling(
+    alloc: Global,
+    code: &mut ListOf<Line>,
+    scope: &Scope,
+    op: &Op,
+    to: Option<u32>,
+) -> Result<(), NoMemory>
+    requires family { IsCalling op.now }
+    requires few { OpNumbered op.now }
+    ensures { OnOk result (Adds code.old code.new (op_lines scope.now op.now to)) }
+{
+    let slot = to.unwrap_or(0);
+    match op {
+        Op::Call {
+            result,
+            function,
+            args,
+        } => put_call(code, scope, to, *result, function, args.as_slice()),
+        Op::Host { result, host, args } => {
+            let args = operands(alloc, scope, args.as_slice())?;
+            put_host(code, slot, *result, scope.host_number(host), args)
+        }
+        Op::Spawn { function, args } => put_spawn(code, scope, slot, function, args.as_slice()),
+        Op::Join { result, handle, .. } => put_join(code, scope, to, *result, handle),
+        _ => Ok(()),
+    }
 }
 
 /// An operation, whose result goes to this slot.
@@ -315,93 +446,28 @@ fn put_op(
     requires { OpNumbered op.now }
     ensures { OnOk result (Adds code.old code.new (op_lines scope.now op.now to)) }
 {
-    let slot = to.unwrap_or(0);
     match op {
-        Op::Const { width, value } => code.push(Line::Const {
-            slot,
-            ty: Ty::Int(*width),
-            value: *value,
-        }),
-        Op::Null => put_null(code, slot),
-        Op::Make { place, size } => code.push(Line::Make {
-            slot,
-            shadow: slot,
-            place: *place,
-            size: operand(scope, size),
-        }),
-        Op::Gep { ptr, add } => put_gep(code, scope, slot, ptr, add),
-        Op::Load { ty, ptr } => put_load(code, slot, *ty, scope.slot(ptr)),
-        Op::Store { ty, val, ptr } => put_store(code, scope, *ty, val, scope.slot(ptr)),
-        Op::Retag { kind, ptr, size } => put_retag(code, slot, *kind, scope.slot(ptr), *size),
-        Op::Binary { op, width, a, b } => code.push(Line::Binary {
-            slot,
-            op: *op,
-            width: *width,
-            a: operand(scope, a),
-            b: operand(scope, b),
-        }),
-        Op::Compare { cond, ty, a, b } => code.push(Line::Compare {
-            slot,
-            cond: *cond,
-            ty: *ty,
-            a: operand(scope, a),
-            b: operand(scope, b),
-        }),
-        Op::Select { ty, cond, a, b } => put_select(code, scope, slot, *ty, cond, a, b),
-        Op::Cast {
-            op,
-            from,
-            to,
-            val,
-            ..
-        } => code.push(Line::Cast {
-            slot,
-            op: *op,
-            from: *from,
-            value: operand(scope, val),
-            to: *to,
-        }),
-        Op::PtrToInt { ptr } => code.push(Line::PtrToInt {
-            slot,
-            ptr: scope.slot(ptr),
-        }),
-        Op::Input { index } => code.push(Line::Input {
-            slot,
-            index: operand(scope, index),
-        }),
-        Op::Modify {
-            op,
-            width,
-            ptr,
-            val,
-        } => put_modify(code, scope, slot, *op, *width, scope.slot(ptr), val),
-        Op::CmpXchg {
-            width,
-            ptr,
-            expected,
-            val,
-        } => put_cmpxchg(code, scope, slot, *width, scope.slot(ptr), expected, val),
-        Op::Copy {
-            to: target,
-            from,
-            len,
-        } => put_copy(code, scope, scope.slot(target), scope.slot(from), len),
-        Op::Free { ptr } => put_free(code, scope.slot(ptr)),
-        Op::Print { width, val } => code.push(Line::Print {
-            width: *width,
-            value: operand(scope, val),
-        }),
-        Op::Call {
-            result,
-            function,
-            args,
-        } => put_call(code, scope, to, *result, function, args.as_slice()),
-        Op::Host { result, host, args } => {
-            let args = operands(alloc, scope, args.as_slice())?;
-            put_host(code, scope, slot, *result, host, args)
-        }
-        Op::Spawn { function, args } => put_spawn(code, scope, slot, function, args.as_slice()),
-        Op::Join { result, handle, .. } => put_join(code, scope, to, *result, handle),
+        Op::Const { .. }
+        | Op::Null
+        | Op::Gep { .. }
+        | Op::Binary { .. }
+        | Op::Compare { .. }
+        | Op::Select { .. }
+        | Op::Cast { .. }
+        | Op::PtrToInt { .. }
+        | Op::Input { .. }
+        | Op::Print { .. } => put_computing(code, scope, op, to),
+        Op::Make { .. }
+        | Op::Load { .. }
+        | Op::Store { .. }
+        | Op::Retag { .. }
+        | Op::Modify { .. }
+        | Op::CmpXchg { .. }
+        | Op::Copy { .. }
+        | Op::Free { .. } => put_memory_op(code, scope, op, to),
+        Op::Call { .. } | Op::Host { .. } | Op::Spawn { .. } | Op::Join { .. } => put_calling(
+            alloc, code, scope, op, to,
+        ),
     }
 }
 
@@ -439,12 +505,12 @@ pub fn put_inst(
 fn put_given(code: &mut ListOf<Line>, scope: &Scope, val: &TypedVal) -> Result<(), NoMemory>
     ensures { OnOk result (Adds code.old code.new (λ ls. line.Result (operand_of scope.now val.now.val) ∷ for_ptr val.now.ty (line.ShadowResult (shadow_of scope.now val.now.val)) ls)) }
 {
-    code.push(Line::Result {
-        value: operand(scope, &val.val),
-    })?;
-    put_for_ptr(
+    put_with_shadow(
         code,
         val.ty,
+        Line::Result {
+            value: operand(scope, &val.val),
+        },
         Line::ShadowResult {
             from: shadow(scope, &val.val),
         },

@@ -12,7 +12,8 @@ use target_code::Target;
 /// The target code of a verified program.
 ///
 /// # Errors
-/// Only where memory is wanting.
+///
+/// `NoMemory`: out of memory.
 pub fn instrument(alloc: Global, program: &Verified) -> Result<Target, NoMemory>
     ensures translated { IfOk result (λ target. target ≡ translation program.now.hosts.entries program.now.program) }
     ensures formed { IfOk result IsWellFormed }

@@ -9,6 +9,7 @@ ghost use Rattle.instrument.specs.Translation.{params_at, attr_of_join, scope_of
 ghost use Rattle.instrument.specs.Names.{IsOnce, Numbered};
 ghost use Rattle.instrument.specs.Sets.{Defines};
 
+use crate::by_name::ByName;
 use crate::names::{place, set_of};
 use bsan_ids::NoMemory;
 use indexmap::IndexSet;
@@ -17,114 +18,15 @@ use std::alloc::Global;
 use std::marker::Model;
 
 /// The functions of a program.
-#[derive(Drop)]
-pub struct Functions<'p> {
-    all: &'p [Function],
-    names: IndexSet<&'p [u8]>,
-}
+pub type Functions<'p> = ByName<'p, Function>;
 
-impl<'p> Model for Functions<'p> {
-    ghost use Rattle.std.specs.Prelude.{List, ◌≡◌, ◌<◌, ◌^◌, length};
-    ghost use Rattle.ir_ast.specs.declared.program.Function.{Function};
-    ghost use Rattle.ir_ast.specs.Numbers.{function_names};
-    ghost use Rattle.instrument.specs.Sets.{names_in};
-
-    ghost Value = { List Function };
-
-    ghost view = { λ f. f.all.now };
-
-    ghost invariant = { λ f. (names_in f.names.keys ≡ function_names f.all.now) × (length f.names.keys < 2 ^ 32) };
-}
-
-impl<'p> Functions<'p> {
-    #[tactic(auto, using(crate::proofs::Sets::short))]
-    pub fn new(alloc: Global, all: &'p [Function]) -> Result<Functions<'p>, NoMemory>
-        requires once { IsOnce (function_names all.now) }
-        requires few { Numbered all.now }
-        ensures { IfOk result (λ functions. functions ≡ all.now) }
-    {
-        let mut names = Vec::new(alloc);
-        for function in all {
-            names.push(function.name.name.as_slice())?;
-        }
-        Ok(Functions {
-            all,
-            names: set_of(alloc, names.as_slice())?,
-        })
-    }
-
-    /// The number of the function of this name.
-    pub fn number(&self, name: &Named) -> u32
-        ensures { result ≡ place (function_names self.now) name.now.name }
-    {
-        place(&self.names, name.name.as_slice())
-    }
-
-    /// The attribute of the result of the function of this name.
-    pub fn result_attr(&self, name: &Named) -> Option<Attr>
-        ensures { result ≡ attr_of_call self.now name.now.name }
-    {
-        match self.all.get(self.number(name) as usize) {
-            Some(function) => function.result.attr,
-            None => None,
-        }
-    }
-}
-
-/// The blocks of a function.
-#[derive(Drop)]
-pub struct Blocks<'p> {
-    all: &'p [Block],
-    names: IndexSet<&'p [u8]>,
-}
-
-impl<'p> Model for Blocks<'p> {
-    ghost use Rattle.std.specs.Prelude.{List, ◌≡◌, ◌<◌, ◌^◌, length};
-    ghost use Rattle.ir_ast.specs.declared.program.Block.{Block};
-    ghost use Rattle.ir_ast.specs.Numbers.{labels};
-    ghost use Rattle.instrument.specs.Sets.{names_in};
-
-    ghost Value = { List Block };
-
-    ghost view = { λ b. b.all.now };
-
-    ghost invariant = { λ b. (names_in b.names.keys ≡ labels b.all.now) × (length b.names.keys < 2 ^ 32) };
-}
-
-impl<'p> Blocks<'p> {
-    #[tactic(auto, using(crate::proofs::Sets::short))]
-    pub fn new(alloc: Global, all: &'p [Block]) -> Result<Blocks<'p>, NoMemory>
-        requires once { IsOnce (labels all.now) }
-        requires few { Numbered all.now }
-        ensures { IfOk result (λ blocks. blocks ≡ all.now) }
-    {
-        let mut names = Vec::new(alloc);
-        for block in all {
-            names.push(block.label.name.as_slice())?;
-        }
-        Ok(Blocks {
-            all,
-            names: set_of(alloc, names.as_slice())?,
-        })
-    }
-
-    /// The number of the block of this label.
-    pub fn number(&self, label: &Named) -> u32
-        ensures { result ≡ place (labels self.now) label.now.name }
-    {
-        place(&self.names, label.name.as_slice())
-    }
-}
-
-impl<'p> Blocks<'p> {
-    /// The parameters of the block of this number.
-    pub fn params(&self, number: u32) -> &'p [Param]
-        ensures { result.now ≡ params_at (slice_get self.now number) }
-    {
-        match self.all.get(number as usize) {
-            Some(block) => block.params.as_slice(),
-            None => &[],
-        }
+/// The attribute of the result of the function of this name.
+fn result_attr(functions: &Functions, name: &Named) -> Option<Attr>
+    ensures { result ≡ attr_of_call functions.now name.now.name }
+{
+    match functions.get(functions.number(name)) {
+        Some(function) => function.result.attr,
+        None => None,
     }
 }
 
@@ -201,7 +103,7 @@ fn spawned_attr(functions: &Functions, op: &Op) -> Option<Attr>
     ensures { result ≡ spawned_attr functions.now op.now }
 {
     match op {
-        Op::Spawn { function, .. } => functions.result_attr(function),
+        Op::Spawn { function, .. } => result_attr(functions, function),
         _ => None,
     }
 }
@@ -213,7 +115,7 @@ pub struct Scope<'p> {
     hosts: &'p [HostEntry],
     registers: IndexSet<&'p [u8]>,
     attrs: Vec<Option<Attr>>,
-    blocks: Blocks<'p>,
+    blocks: ByName<'p, Block>,
 }
 
 impl<'p> Model for Scope<'p> {
@@ -252,7 +154,7 @@ impl<'p> Scope<'p> {
             hosts,
             registers: set_of(alloc, names.as_slice())?,
             attrs,
-            blocks: Blocks::new(alloc, function.blocks.as_slice())?,
+            blocks: ByName::new(alloc, function.blocks.as_slice())?,
         })
     }
 
@@ -281,7 +183,7 @@ impl<'p> Scope<'p> {
     pub fn call_attr(&self, name: &Named) -> Option<Attr>
         ensures { result ≡ attr_of_call self.now.functions name.now.name }
     {
-        self.functions.result_attr(name)
+        result_attr(self.functions, name)
     }
 
     /// The number of the block of this label.
@@ -295,7 +197,10 @@ impl<'p> Scope<'p> {
     pub fn params(&self, block: u32) -> &'p [Param]
         ensures { result.now ≡ params_at (slice_get self.now.blocks block) }
     {
-        self.blocks.params(block)
+        match self.blocks.get(block) {
+            Some(block) => block.params.as_slice(),
+            None => &[],
+        }
     }
 
     /// The attribute of what a join through a handle gives.

@@ -3,7 +3,6 @@ use Rattle.std.proofs.Common.{◌≡◌, ℕ, zero, suc, ◌+◌, ◌<◌, ◌�
 use Rattle.std.specs.Prelude.{slice_get, Contains, Result, Ok, Err, IfOk}
 use Rattle.std.specs.Str.{bytes_eq}
 use Rattle.std.specs.Cmp.Lexicographic.{bytes_decides}
-use Rattle.std.proofs.lemmas.List.Elements.{Contains-append_right}
 use Rattle.ir_ast.specs.declared.program.Block.{Block}
 use Rattle.ir_ast.specs.declared.program.Param.{Param}
 use Rattle.ir_ast.specs.declared.program.Function.{Function}
@@ -14,14 +13,16 @@ use Rattle.ir_rules.specs.Occurrences.{Holds, Use, Event, block_events, param_ev
 use Rattle.ir_rules.specs.Occurrences.Event.{defines, uses}
 use Rattle.ir_rules.specs.Paths.{Avoids, IsPath, IsUnassigned}
 use Rattle.ir_rules.specs.Rules.{held, UnassignedFault}
-use Rattle.ir_rules.specs.Least.{fault, IsLeast}
+use Rattle.ir_rules.specs.Least.{fault, IsLeast, AnyOf}
 use Rattle.ir_rules.proofs.Least.{least-same}
 use Rattle.flow_paths.specs.Paths.{IsMarked, Answers}
 use Rattle.ir_assigned.specs.declared.mentions.Mention.{Mention}
-use Rattle.ir_assigned.specs.Graph.{In, assigns, successors, IsGraphOf, early}
+use Rattle.ir_assigned.specs.Graph.{assigns, successors}
 use Rattle.ir_assigned.specs.Mentions.{mentions_from, defined, scan, Found}
-use Rattle.ir_assigned.specs.Faults.{AnyOf, RegisterFault, EventFault, FunctionFault}
-use Rattle.ir_assigned.proofs.Ways.{map_at, at_map, length_map, avoids_if, if_avoids, same_paths, early_uses}
+use Rattle.ir_assigned.specs.Faults.{RegisterFault, EventFault, FunctionFault}
+use Rattle.ir_assigned.proofs.Ways.{map_at, at_map, length_map, avoids_if, if_avoids, same_paths, early_uses, IsGraphOf, early}
+use Rattle.ir_assigned.proofs.Firsts.{In, contains_in, in_contains}
+use Rattle.ir_rules.proofs.Any.{any-cons, cons-any, none_in}
 use Rattle.ir_assigned.proofs.Scan.{faults_from, defined_all, scan_all, in_faults, faults_in}
 
 map_map : (r : List ℕ) (blocks : List Block) → map (assigns r) (map block_events blocks) ≡ map (λ b. assigns r (block_events b)) blocks
@@ -81,11 +82,12 @@ register_found f r graph ms o goes mentioned entry found =
     let halts : stops ≡ map (λ b. assigns r (block_events b)) f.blocks = ap (λ (n : ℕ). defined (replicate n false) ms) size ∙ ap (defined (replicate (length blocks) false)) mentioned ∙ defined_all r [] blocks ∙ map_map r f.blocks in
     let faults : scan found.entered (replicate (length graph) false) ms ≡ faults_from found.entered r 0 blocks =
     ap (λ (n : ℕ). scan found.entered (replicate n false) ms) size ∙ ap (scan found.entered (replicate (length blocks) false)) mentioned ∙ scan_all found.entered r [] blocks in
+    let marked : List Fault = scan found.entered (replicate (length graph) false) ms in
     let is : IsGraphOf f r graph stops = record { goes = goes; halts = halts } in
     least-same (In (faults_from found.entered r 0 blocks)) (RegisterFault f r) o
     (to_register f r graph stops found.entered is found.answers (avoids_if r (map param_event f.params) entry))
     (from_register f r graph stops found.entered is found.answers)
-    (subst (λ (z : List Fault). IsLeast (In z) o) faults found.is_least)
+    (subst (λ (z : List Fault). IsLeast (In z) o) faults (least-same (Contains marked) (In marked) o (contains_in marked) (in_contains marked) found.is_least))
 
 -- a parameter is defined at the function's entry
 pub param_none : (f : Function) (r : List ℕ) → assigns r (map param_event f.params) ≡ true → IsLeast (RegisterFault f r) None
@@ -101,8 +103,8 @@ find_pick false f q n h k o es x e is m go = inr (go is)
 
 find_event : (f : Function) (es : List Event) (q : List ℕ) (h : Holds) (x : Fault) → held es q ≡ Some h → RegisterFault f q x → AnyOf (EventFault f) es x
 find_event f [] q h x e m = absurd cc
-find_event f (uses u ∷ es) q h x e m = inr (find_event f es q h x e m)
-find_event f (defines d k ∷ es) q h x e m = find_pick (bytes_eq q d.name) f q d.name h k (held es q) es x refl e m (λ e2. find_event f es q h x e2 m)
+find_event f (uses u ∷ es) q h x e m = any-cons (EventFault f) (uses u) es x (inr (find_event f es q h x e m))
+find_event f (defines d k ∷ es) q h x e m = any-cons (EventFault f) (defines d k) es x (find_pick (bytes_eq q d.name) f q d.name h k (held es q) es x refl e m (λ e2. find_event f es q h x e2 m))
 
 held_pick : (b : Bool) (k : Holds) (o : Option Holds) → ((h : Holds) × (o ≡ Some h)) → (h : Holds) × (cond b (Some k) o ≡ Some h)
 held_pick true k o m = (k, refl)
@@ -113,16 +115,17 @@ held_here true k o e = (k, refl)
 held_here false k o e = absurd cc
 
 of_event : (f : Function) (es : List Event) (x : Fault) → AnyOf (EventFault f) es x → (u : Use) × (h : Holds) × (held es u.reg.name ≡ Some h) × IsUnassigned f u × (fault Unassigned u.reg.at ≡ x)
-of_event f [] x a = absurd a
-of_event f (uses u ∷ es) x (inl a) = absurd a
-of_event f (uses u ∷ es) x (inr a) = of_event f es x a
-of_event f (defines d k ∷ es) x (inl m) =
-    let h = held_here (bytes_eq m.0.reg.name d.name) k (held es m.0.reg.name) ((bytes_decides m.0.reg.name d.name).1 (sym m.2)) in
-    (m.0, h.0, h.1, m.1, m.3)
-of_event f (defines d k ∷ es) x (inr a) =
-    let m = of_event f es x a in
-    let h = held_pick (bytes_eq m.0.reg.name d.name) k (held es m.0.reg.name) (m.1, m.2) in
-    (m.0, h.0, h.1, m.3, m.4)
+of_event f [] x a = absurd (none_in a.0 a.1)
+of_event f (uses u ∷ es) x a = elim (cons-any (EventFault f) (uses u) es x a) [ inl m ↦ absurd m | inr more ↦ of_event f es x more ]
+of_event f (defines d k ∷ es) x a = elim (cons-any (EventFault f) (defines d k) es x a) [
+  | inl m ↦
+      let h = held_here (bytes_eq m.0.reg.name d.name) k (held es m.0.reg.name) ((bytes_decides m.0.reg.name d.name).1 (sym m.2)) in
+      (m.0, h.0, h.1, m.1, m.3)
+  | inr more ↦
+      let m = of_event f es x more in
+      let h = held_pick (bytes_eq m.0.reg.name d.name) k (held es m.0.reg.name) (m.1, m.2) in
+      (m.0, h.0, h.1, m.3, m.4)
+]
 
 pub function_least : (f : Function) (es : List Event) (o : Option Fault) → es ≡ function_events f → IsLeast (AnyOf (EventFault f) es) o → IsLeast (FunctionFault f) o
 function_least f es o e l = least-same (AnyOf (EventFault f) (function_events f)) (FunctionFault f) o
@@ -141,20 +144,9 @@ no_blocks f e x m =
     absurd cc
 
 -- ---- the program
-of_function : (fs : List Function) (x : Fault) → AnyOf FunctionFault fs x → (f : Function) × Contains fs f × FunctionFault f x
-of_function [] x a = absurd a
-of_function (f ∷ fs) x (inl m) = (f, (0, omega arith, refl), m)
-of_function (f ∷ fs) x (inr a) = let m = of_function fs x a in (m.0, Contains-append_right (f ∷ []) fs m.0 m.1, m.2)
-
-in_function : (fs : List Function) (f : Function) (x : Fault) (k : ℕ) → k < length fs → get_or fs k f ≡ f → FunctionFault f x → AnyOf FunctionFault fs x
-in_function [] f x k lt e m = absurd (omega (arith, lt))
-in_function (g ∷ fs) f x zero lt e m = inl (subst (λ (z : Function). FunctionFault z x) (sym e) m)
-in_function (g ∷ fs) f x (suc k) lt e m = inr (in_function fs f x k (omega (arith, lt)) e m)
-
 pub program_least : (p : Program) (o : Option Fault) → IsLeast (AnyOf FunctionFault p.functions) o → IsLeast (UnassignedFault p) o
 program_least p o l = least-same (AnyOf FunctionFault p.functions) (UnassignedFault p) o
-    (λ x a. let m = of_function p.functions x a in (m.0, m.2.0, m.2.1, m.1, m.2.2, m.2.3, m.2.4))
-    (λ x m. in_function p.functions m.0 x m.3.0 m.3.1 m.3.2 (m.1, m.2, m.4, m.5, m.6)) l
+    (λ x a. (a.0, a.2.0, a.2.1, a.1, a.2.2, a.2.3, a.2.4)) (λ x m. (m.0, m.3, (m.1, m.2, m.4, m.5, m.6))) l
 
 -- ---- at the functions' returns
 pub if_ok_map : {X E : Type 0} (r : Result X E) (P Q : X → Type 0) → ((x : X) → P x → Q x) → IfOk r P → IfOk r Q

@@ -9,9 +9,11 @@ use Rattle.ir_rules.specs.Occurrences.Event.{defines, uses}
 use Rattle.ir_rules.specs.Least.{fault, lesser, IsLeast}
 use Rattle.flow_paths.specs.Paths.{IsMarked}
 use Rattle.ir_assigned.specs.declared.mentions.Mention.{Mention}
-use Rattle.ir_assigned.specs.Graph.{In, listed, assigns, early}
+use Rattle.ir_assigned.specs.Graph.{listed, assigns}
 use Rattle.ir_assigned.specs.Mentions.{mention_of, mention_if, mentions, mentions_from, define, defined, mention_fault, scan}
-use Rattle.ir_assigned.proofs.Firsts.{in_cases, in_left, in_right, take_next, least_more}
+use Rattle.ir_rules.proofs.Any.{taken-next}
+use Rattle.ir_assigned.proofs.Firsts.{In, in_cases, in_left, in_right, least_more}
+use Rattle.ir_assigned.proofs.Ways.{early}
 
 -- ---- one more mention
 pub length_define : (marks : List Bool) (m : Mention) → length (define marks m) ≡ length marks
@@ -39,7 +41,7 @@ defined_last marks [] m = refl
 defined_last marks (k ∷ ms) m = defined_last (define marks k) ms m
 
 pub defined_next : (marks : List Bool) (ms : List Mention) (i : ℕ) (d : Mention) → i < length ms → defined marks (take (i + 1) ms) ≡ define (defined marks (take i ms)) (get_or ms i d)
-defined_next marks ms i d lt = ap (defined marks) (take_next ms i d lt) ∙ defined_last marks (take i ms) (get_or ms i d)
+defined_next marks ms i d lt = ap (defined marks) (taken-next ms i d lt) ∙ defined_last marks (take i ms) (get_or ms i d)
 
 scan_last : (entered marks : List Bool) (ms : List Mention) (m : Mention) → scan entered marks (ms ++ m ∷ []) ≡ scan entered marks ms ++ listed (mention_fault entered (defined marks ms) m)
 scan_last entered marks [] m = append_none (listed (mention_fault entered marks m))
@@ -54,10 +56,10 @@ pub scan_next : (entered marks : List Bool) (ms : List Mention) (i : ℕ) (d : M
     → IsLeast (In (scan entered marks (take (i + 1) ms))) (lesser best (mention_fault entered (defined marks (take i ms)) (get_or ms i d)))
 scan_next entered marks ms i d best lt l =
     let o : Option Fault = mention_fault entered (defined marks (take i ms)) (get_or ms i d) in
-    let more : scan entered marks (take (i + 1) ms) ≡ scan entered marks (take i ms) ++ listed o = ap (scan entered marks) (take_next ms i d lt) ∙ scan_last entered marks (take i ms) (get_or ms i d) in
+    let more : scan entered marks (take (i + 1) ms) ≡ scan entered marks (take i ms) ++ listed o = ap (scan entered marks) (taken-next ms i d lt) ∙ scan_last entered marks (take i ms) (get_or ms i d) in
     subst (λ (z : List Fault). IsLeast (In z) (lesser best o)) (sym more) (least_more (scan entered marks (take i ms)) o best l)
 
--- ---- the mentions of one block; its mark is the one behind those of the blocks before it
+-- ---- the mentions of one block; its mark comes after those of the blocks before it
 or_false : (a : Bool) → a || false ≡ a
 or_false true = refl
 or_false false = refl

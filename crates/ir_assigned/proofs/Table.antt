@@ -14,7 +14,7 @@ use Rattle.ir_rules.specs.declared.events.Role.TheVariants.{Defines, Uses}
 use Rattle.ir_rules.specs.declared.events.Occurrence.{Occurrence}
 use Rattle.ir_assigned.specs.declared.mentions.Mention.{Mention}
 use Rattle.ir_assigned.specs.Mentions.{register_of, mention_of, mention_if, mentions, mentions_from}
-use Rattle.ir_assigned.proofs.Firsts.{take_next}
+use Rattle.ir_rules.proofs.Any.{taken-next}
 use Rattle.ir_assigned.proofs.Ways.{length_map}
 
 mentions_last : (q : List ℕ) (b : ℕ) (es : List Event) (e : Event) → mentions q b (es ++ e ∷ []) ≡ mentions q b es ++ mention_if (bytes_eq q (register_of e)) (mention_of b e)
@@ -26,7 +26,7 @@ mentions_last q b (f ∷ es) e = ap (λ (z : List Mention). mention_if (bytes_eq
 pub mentions_next : (q : List ℕ) (b : ℕ) (os : List Occurrence) (i : ℕ) (d : Occurrence) → i < length os
     → mentions q b (seen (take (i + 1) os)) ≡ mentions q b (seen (take i os)) ++ mention_if (bytes_eq q (register_of (event_of (get_or os i d)))) (mention_of b (event_of (get_or os i d)))
 mentions_next q b os i d lt =
-    ap (λ (z : List Occurrence). mentions q b (seen z)) (take_next os i d lt)
+    ap (λ (z : List Occurrence). mentions q b (seen z)) (taken-next os i d lt)
     ∙ ap (mentions q b) (map-append event_of (take i os) (get_or os i d ∷ []))
     ∙ mentions_last q b (seen (take i os)) (event_of (get_or os i d))
 
@@ -43,7 +43,7 @@ pub from_next : (q : List ℕ) (blocks : List Block) (i : ℕ) (d : Block) → i
 from_next q blocks i d lt =
     let len : length (take i blocks) ≡ i = grind (arith, length-take) in
     let n : 0 + length (map block_events (take i blocks)) ≡ i = omega (arith, length_map block_events (take i blocks), len) in
-    ap (λ (z : List Block). mentions_from q 0 (map block_events z)) (take_next blocks i d lt)
+    ap (λ (z : List Block). mentions_from q 0 (map block_events z)) (taken-next blocks i d lt)
     ∙ ap (mentions_from q 0) (map-append block_events (take i blocks) (get_or blocks i d ∷ []))
     ∙ from_last q 0 (map block_events (take i blocks)) (block_events (get_or blocks i d))
     ∙ ap (λ (k : ℕ). mentions_from q 0 (map block_events (take i blocks)) ++ mentions q k (block_events (get_or blocks i d))) n

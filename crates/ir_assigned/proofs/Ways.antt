@@ -1,6 +1,6 @@
 -- The graph's paths are the function's.
-use Rattle.std.proofs.Common.{Bor, ◌≡◌, ℕ, zero, suc, ◌+◌, ◌<◌, ◌≤◌, ◌⊎◌, inl, inr, Bool, true, false, cond, List, [], ◌∷◌, ◌++◌, length, map, get_or, Option, Some, None, refl, sym, ap, subst, ◌∙◌, append_assoc, arith}
-use Rattle.std.specs.Prelude.{slice_get, Contains, slice_index_or, OnOk, Result, Ok, Err}
+use Rattle.std.proofs.Common.{◌≡◌, ℕ, zero, suc, ◌+◌, ◌<◌, ◌≤◌, ◌⊎◌, inl, inr, Bool, true, false, cond, List, [], ◌∷◌, ◌++◌, length, map, get_or, Option, Some, None, refl, sym, ap, subst, ◌∙◌, append_assoc, arith}
+use Rattle.std.specs.Prelude.{slice_get, Contains, slice_index_or, OnOk, Result, Ok, Err, if◌then◌else◌}
 use Rattle.ir_ast.specs.declared.program.Jump.{Jump}
 use Rattle.ir_ast.specs.declared.program.Jump.TheVariants.{CondBr}
 use Rattle.ir_ast.specs.declared.program.Val.{Val}
@@ -8,17 +8,46 @@ use Rattle.std.specs.List.{flat_map}
 use Rattle.std.specs.Str.{bytes_eq}
 use Rattle.std.proofs.lemmas.List.{append-nil, map-append}
 use Rattle.std.proofs.lemmas.List.Concat.{flat_map-cons}
-use Rattle.std.proofs.lemmas.List.Elements.{Contains-append_right}
+use Rattle.std.proofs.lemmas.List.Elements.{Contains-append_cases, Contains-append_left, Contains-append_right, Contains-get_or}
 use Rattle.std.specs.Cmp.Lexicographic.{bytes_decides}
 use Rattle.ir_ast.specs.declared.program.Goal.{Goal}
 use Rattle.ir_ast.specs.declared.program.Block.{Block}
 use Rattle.ir_ast.specs.declared.program.Function.{Function}
 use Rattle.flow_paths.specs.Paths as search
-use Rattle.flow_paths.specs.Paths.{Member, Passes, IsInside}
+use Rattle.flow_paths.specs.Paths.{Passes, IsEntered, IsInside}
 use Rattle.ir_rules.specs.Occurrences.{Use, Event, jump_goals, block_events}
 use Rattle.ir_rules.specs.Occurrences.Event.{defines, uses}
-use Rattle.ir_rules.specs.Paths.{Avoids, AvoidsBlock, GoesTo, IsPath, block_place, place_named, option_suc}
-use Rattle.ir_assigned.specs.Graph.{listed, target, successors, assigns, IsGraphOf, PathsAreTheSame, early, IsEarly, In}
+use Rattle.ir_rules.specs.Paths.{Avoids, AvoidsBlock, GoesTo, IsPath, label_place}
+use Rattle.ir_rules.proofs.Any.{here, none_in, head_of}
+use Rattle.ir_rules.proofs.Places.{found_at, at_found}
+use Rattle.ir_assigned.specs.Graph.{listed, target, successors, assigns}
+use Rattle.ir_assigned.proofs.Firsts.{In}
+
+-- a block stops the register where it defines it
+pub record IsGraphOf (f : Function) (r : List ℕ) (graph : List (List ℕ)) (stops : List Bool) : Type 0 where
+  pub goes : graph ≡ map (successors f.blocks) f.blocks
+  pub halts : stops ≡ map (λ b. assigns r (block_events b)) f.blocks
+
+-- some path of blocks leads to the block, and none of the blocks before it defines the register
+abbrev pub IsReached : Function → List ℕ → ℕ → Type 0
+IsReached f r b = (path : List ℕ) × IsPath f r (b ∷ path)
+
+-- the graph's paths are the function's
+abbrev pub PathsAreTheSame : Type 0
+PathsAreTheSame = (f : Function) (r : List ℕ) (graph : List (List ℕ)) (stops : List Bool) → IsGraphOf f r graph stops → (b : ℕ) → (IsEntered graph stops b → IsReached f r b) × (IsReached f r b → IsEntered graph stops b)
+
+-- the uses of the register before the first definition of it
+abbrev pub early : List ℕ → List Event → List Use
+early r [] = []
+early r (defines d h ∷ es) = if bytes_eq r d.name then [] else early r es
+early r (uses u ∷ es) = if bytes_eq r u.reg.name then u ∷ early r es else early r es
+
+pub record IsEarly (r : List ℕ) (es : List Event) (u : Use) : Type 0 where
+  pub before : List Event
+  pub after : List Event
+  pub is_name : r ≡ u.reg.name
+  pub stands : es ≡ before ++ uses u ∷ after
+  pub avoids : Avoids r before
 
 pub ruleset graph_steps = (append-nil, map-append, append_assoc)
 
@@ -37,44 +66,29 @@ at_map g (y ∷ ys) zero x e = let s : y ≡ x = cc in ap (λ (z : _). let o : O
 at_map g (y ∷ ys) (suc n) x e = at_map g ys n x e
 
 -- ---- goals and successors
-Member-left : (xs ys : List ℕ) (n : ℕ) → Member xs n → Member (xs ++ ys) n
-Member-left [] ys n h = absurd h
-Member-left (x ∷ xs) ys n (inl e) = inl e
-Member-left (x ∷ xs) ys n (inr h) = inr (Member-left xs ys n h)
+listed_is : (o : Option ℕ) (n : ℕ) → Contains (listed o) n → o ≡ Some n
+listed_is None n h = absurd (none_in n h)
+listed_is (Some m) n h = elim (head_of m n [] h) [
+  | inl e ↦ ap (λ (z : ℕ). let o : Option ℕ = Some z in o) e
+  | inr more ↦ absurd (none_in n more)
+]
 
-Member-right : (xs ys : List ℕ) (n : ℕ) → Member ys n → Member (xs ++ ys) n
-Member-right [] ys n h = h
-Member-right (x ∷ xs) ys n h = inr (Member-right xs ys n h)
+is_listed : (o : Option ℕ) (n : ℕ) → o ≡ Some n → Contains (listed o) n
+is_listed o n e = subst (λ (z : Option ℕ). Contains (listed z) n) (sym e) (here n [])
 
-Member-cases : (xs ys : List ℕ) (n : ℕ) → Member (xs ++ ys) n → Member xs n ⊎ Member ys n
-Member-cases [] ys n h = inr h
-Member-cases (x ∷ xs) ys n (inl e) = inl (inl e)
-Member-cases (x ∷ xs) ys n (inr h) = elim (Member-cases xs ys n h) [ inl k ↦ inl (inr k) | inr k ↦ inr k ]
-
-listed_is : (o : Option ℕ) (n : ℕ) → Member (listed o) n → o ≡ Some n
-listed_is None n h = absurd h
-listed_is (Some m) n (inl e) = ap (λ (z : ℕ). let o : Option ℕ = Some z in o) (sym e)
-listed_is (Some m) n (inr h) = absurd h
-
-is_listed : (o : Option ℕ) (n : ℕ) → o ≡ Some n → Member (listed o) n
-is_listed o n e = subst (λ (z : Option ℕ). Member (listed z) n) (sym e) (inl refl)
-
-first_in : {A : Type 0} (x : A) (xs : List A) → Contains (x ∷ xs) x
-first_in x xs = (0, omega arith, refl)
-
-goal_of : (blocks : List Block) (gs : List Goal) (n : ℕ) → Member (flat_map (target blocks) gs) n → (g : Goal) × Contains gs g × (block_place blocks g.label.name ≡ Some n)
-goal_of blocks [] n h = absurd h
-goal_of blocks (g ∷ gs) n h = elim (Member-cases (target blocks g) (flat_map (target blocks) gs) n (subst (λ (z : List ℕ). Member z n) (flat_map-cons (target blocks) g gs) h)) [
-  | inl k ↦ (g, first_in g gs, listed_is (block_place blocks g.label.name) n k)
+goal_of : (blocks : List Block) (gs : List Goal) (n : ℕ) → Contains (flat_map (target blocks) gs) n → (g : Goal) × Contains gs g × (label_place blocks g.label.name ≡ Some n)
+goal_of blocks [] n h = absurd (none_in n h)
+goal_of blocks (g ∷ gs) n h = elim (Contains-append_cases (target blocks g) (flat_map (target blocks) gs) n (subst (λ (z : List ℕ). Contains z n) (flat_map-cons (target blocks) g gs) h)) [
+  | inl k ↦ (g, here g gs, listed_is (label_place blocks g.label.name) n k)
   | inr k ↦ let m = goal_of blocks gs n k in (m.0, Contains-append_right (g ∷ []) gs m.0 m.1, m.2)
 ]
 
-of_goal : (blocks : List Block) (gs : List Goal) (g : Goal) (n k : ℕ) → k < length gs → slice_index_or gs k g ≡ g → block_place blocks g.label.name ≡ Some n → Member (flat_map (target blocks) gs) n
+of_goal : (blocks : List Block) (gs : List Goal) (g : Goal) (n k : ℕ) → k < length gs → slice_index_or gs k g ≡ g → label_place blocks g.label.name ≡ Some n → Contains (flat_map (target blocks) gs) n
 of_goal blocks [] g n k lt e p = absurd (omega (arith, lt))
-of_goal blocks (h ∷ gs) g n zero lt e p = subst (λ (z : List ℕ). Member z n) (sym (flat_map-cons (target blocks) h gs))
-    (Member-left (target blocks h) (flat_map (target blocks) gs) n (subst (λ (z : Goal). Member (target blocks z) n) (sym e) (is_listed (block_place blocks g.label.name) n p)))
-of_goal blocks (h ∷ gs) g n (suc k) lt e p = subst (λ (z : List ℕ). Member z n) (sym (flat_map-cons (target blocks) h gs))
-    (Member-right (target blocks h) (flat_map (target blocks) gs) n (of_goal blocks gs g n k (omega (arith, lt)) e p))
+of_goal blocks (h ∷ gs) g n zero lt e p = subst (λ (z : List ℕ). Contains z n) (sym (flat_map-cons (target blocks) h gs))
+    (Contains-append_left (target blocks h) (flat_map (target blocks) gs) n (subst (λ (z : Goal). Contains (target blocks z) n) (sym e) (is_listed (label_place blocks g.label.name) n p)))
+of_goal blocks (h ∷ gs) g n (suc k) lt e p = subst (λ (z : List ℕ). Contains z n) (sym (flat_map-cons (target blocks) h gs))
+    (Contains-append_right (target blocks h) (flat_map (target blocks) gs) n (of_goal blocks gs g n k (omega (arith, lt)) e p))
 
 -- ---- whether the events define the register
 avoids_pick : (b : Bool) (r n : List ℕ) (rest : Bool) (A : Type 0) → bytes_eq r n ≡ b → cond b true rest ≡ false → (rest ≡ false → A) → ((n ≡ r → ⊥) × A)
@@ -103,15 +117,16 @@ step_to : (f : Function) (r : List ℕ) (graph : List (List ℕ)) (stops : List 
 step_to f r graph stops is b s p =
     let o = map_at (successors f.blocks) f.blocks b p.0 (subst (λ (z : List (List ℕ)). slice_get z b ≡ Some p.0) is.goes p.1) in
     let a = map_at (defining r) f.blocks b false (subst (λ (z : List Bool). slice_get z b ≡ Some false) is.halts p.2) in
-    let g = goal_of f.blocks (jump_goals o.0.term.jump) s (subst (λ (z : List ℕ). Member z s) (sym o.2) p.3) in
-    ((o.0, g.0, o.1, g.1, g.2), (a.0, a.1, avoids_if r (block_events a.0) a.2))
+    let g = goal_of f.blocks (jump_goals o.0.term.jump) s (subst (λ (z : List ℕ). Contains z s) (sym o.2) p.3) in
+    let at = found_at (λ (z : Block). z.label.name) f.blocks g.0.label.name s g.2 in
+    ((o.0, g.0, o.1, g.1, at.0, at.1), (a.0, a.1, avoids_if r (block_events a.0) a.2))
 
 step_back : (f : Function) (r : List ℕ) (graph : List (List ℕ)) (stops : List Bool) → IsGraphOf f r graph stops → (b s : ℕ) → GoesTo f b s → AvoidsBlock f r b → Passes graph stops b s
 step_back f r graph stops is b s g a = (
   successors f.blocks g.0,
   subst (λ (z : List (List ℕ)). slice_get z b ≡ Some (successors f.blocks g.0)) (sym is.goes) (at_map (successors f.blocks) f.blocks b g.0 g.2),
   subst (λ (z : List Bool). slice_get z b ≡ Some false) (sym is.halts) (at_map (defining r) f.blocks b a.0 a.1 ∙ ap (λ (z : Bool). let o : Option Bool = Some z in o) (if_avoids r (block_events a.0) a.2)),
-  of_goal f.blocks (jump_goals g.0.term.jump) g.1 s g.3.0 g.3.1 g.3.2 g.4,
+  of_goal f.blocks (jump_goals g.0.term.jump) g.1 s g.3.0 g.3.1 g.3.2 (at_found (λ (z : Block). z.label.name) f.blocks g.1.label.name s g.4 g.5),
 )
 
 path_to : (f : Function) (r : List ℕ) (graph : List (List ℕ)) (stops : List Bool) → IsGraphOf f r graph stops → (b : ℕ) (path : List ℕ) → search.IsPath graph stops (b ∷ path) → IsPath f r (b ∷ path)
@@ -176,22 +191,8 @@ two_goals F o a b j c y n e p q =
     q ∙ ap (λ (z : List ℕ). z ++ F n) p ∙ append_assoc o (F y) (F n) ∙ ap (λ (z : List ℕ). o ++ z) (ap (λ (z : List ℕ). F y ++ z) (sym (append-nil (F n))) ∙ sym goals)
 
 -- ---- blocks that a block goes to are blocks of the function
-place_suc : (o : Option ℕ) (n k : ℕ) → ((m : ℕ) → o ≡ Some m → m < k) → option_suc o ≡ Some n → n < suc k
-place_suc None n k h e = absurd cc
-place_suc (Some m) n k h e = let s : suc m ≡ n = cc in omega (arith, h m refl, s)
-
-place_pick : (b : Bool) (o : Option ℕ) (n k : ℕ) → ((m : ℕ) → o ≡ Some m → m < k) → cond b (Some 0) (option_suc o) ≡ Some n → n < suc k
-place_pick true o n k h e = let s : 0 ≡ n = cc in omega (arith, s)
-place_pick false o n k h e = place_suc o n k h e
-
-place_inside : (blocks : List Block) (q : List ℕ) (n : ℕ) → block_place blocks q ≡ Some n → n < length blocks
-place_inside [] q n e = absurd cc
-place_inside (b ∷ blocks) q n e = place_pick (bytes_eq q b.label.name) (block_place blocks q) n (length blocks) (λ m k. place_inside blocks q m k) e
-
-member_at : (xs : List ℕ) (k d : ℕ) → k < length xs → Member xs (get_or xs k d)
-member_at [] k d lt = absurd (omega (arith, lt))
-member_at (x ∷ xs) zero d lt = inl refl
-member_at (x ∷ xs) (suc k) d lt = inr (member_at xs k d (omega (arith, lt)))
+place_inside : (blocks : List Block) (q : List ℕ) (n : ℕ) → label_place blocks q ≡ Some n → n < length blocks
+place_inside blocks q n e = (found_at (λ (z : Block). z.label.name) blocks q n e).1
 
 at_read : {A : Type 0} (xs : List A) (k : ℕ) (d : A) → k < length xs → slice_get xs k ≡ Some (get_or xs k d)
 at_read [] k d lt = absurd (omega (arith, lt))
@@ -206,17 +207,6 @@ pub all_inside : (blocks : List Block) → IsInside (map (successors blocks) blo
 all_inside blocks k d lt j e there =
     let next = get_or (map (successors blocks) blocks) k d in
     let block = map_at (successors blocks) blocks k next (at_read (map (successors blocks) blocks) k d lt) in
-    let g = goal_of blocks (jump_goals block.0.term.jump) (get_or next j e) (subst (λ (z : List ℕ). Member z (get_or next j e)) (sym block.2) (member_at next j e there)) in
+    let g = goal_of blocks (jump_goals block.0.term.jump) (get_or next j e) (subst (λ (z : List ℕ). Contains z (get_or next j e)) (sym block.2) (Contains-get_or next j e there)) in
     let inside : get_or next j e < length blocks = place_inside blocks g.0.label.name (get_or next j e) g.2 in
     omega (arith, inside, length_map (successors blocks) blocks)
-
--- places among names are places among what they are the names of
-pub place_map : {A : Type 0} (named : A → List ℕ) (xs : List A) (q : List ℕ) → place_named (λ (n : List ℕ). n) (map named xs) q ≡ place_named named xs q
-place_map named [] q = refl
-place_map named (x ∷ xs) q = ap (λ (o : Option ℕ). cond (bytes_eq q (named x)) (Some 0) (option_suc o)) (place_map named xs q)
-
-pub places_same : (names : List (Bor (List ℕ))) (blocks : List Block) → map (λ w. w.now) names ≡ map (λ b. b.label.name) blocks → (q : List ℕ) → place_named (λ w. w.now) names q ≡ block_place blocks q
-places_same names blocks e q =
-    let label : Block → List ℕ = λ b. b.label.name in
-    let now : Bor (List ℕ) → List ℕ = λ w. w.now in
-    sym (place_map now names q) ∙ ap (λ (z : List (List ℕ)). place_named (λ (n : List ℕ). n) z q) e ∙ place_map label blocks q

@@ -1,5 +1,5 @@
 -- Unassigned uses as faults: of a register, of a function.
-use Rattle.std.specs.Prelude.{◌≡◌, ℕ, ◌⊎◌, List, [], ◌∷◌, Some}
+use Rattle.std.specs.Prelude.{◌≡◌, ℕ, List, Some}
 use Rattle.ir_ast.specs.declared.program.Function.{Function}
 use Rattle.ir_rules.specs.declared.rule.Fault.{Fault}
 use Rattle.ir_rules.specs.declared.rule.Rule.TheVariants.{Unassigned}
@@ -8,11 +8,6 @@ use Rattle.ir_rules.specs.Occurrences.Event.{defines, uses}
 use Rattle.ir_rules.specs.Paths.{IsUnassigned}
 use Rattle.ir_rules.specs.Rules.{held}
 use Rattle.ir_rules.specs.Least.{fault}
-
--- one of the items has the fault
-abbrev pub AnyOf : {A : Type 0} → (A → Fault → Type 0) → List A → Fault → Type 0
-AnyOf S [] x = ⊥
-AnyOf S (a ∷ as') x = S a x ⊎ AnyOf S as' x
 
 -- a use of the register that is unassigned
 abbrev pub RegisterFault : Function → List ℕ → Fault → Type 0

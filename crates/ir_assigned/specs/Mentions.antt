@@ -1,5 +1,5 @@
 -- Where a register stands in the blocks of a function, and what a search over these places finds.
-use Rattle.std.specs.Prelude.{ℕ, suc, Bool, true, false, not, ◌&&◌, List, [], ◌∷◌, ◌++◌, length, replicate, slice_set, slice_index_or, Option, Some, None, if◌then◌else◌}
+use Rattle.std.specs.Prelude.{ℕ, suc, Bool, true, false, not, ◌&&◌, List, [], ◌∷◌, ◌++◌, length, replicate, slice_set, slice_index_or, Option, Some, None, Contains, if◌then◌else◌}
 use denote.Ref.{Bor}
 use Rattle.std.specs.Prelude.{Vec}
 use Rattle.std.specs.Global.{Global}
@@ -16,7 +16,7 @@ use Rattle.ir_rules.specs.Occurrences.Event.{defines, uses}
 use Rattle.ir_rules.specs.Least.{fault, IsLeast}
 use Rattle.flow_paths.specs.Paths.{Answers}
 use Rattle.ir_assigned.specs.declared.mentions.Mention.{Mention}
-use Rattle.ir_assigned.specs.Graph.{In, listed}
+use Rattle.ir_assigned.specs.Graph.{listed}
 
 -- the register that an event defines or uses
 abbrev pub register_of : Event → List ℕ
@@ -65,4 +65,4 @@ scan entered marks (m ∷ ms) = listed (mention_fault entered marks m) ++ scan e
 pub record Found (graph : List (List ℕ)) (ms : List Mention) (first : Option Fault) : Type 0 where
   pub entered : List Bool
   pub answers : Answers graph (defined (replicate (length graph) false) ms) entered
-  pub is_least : IsLeast (In (scan entered (replicate (length graph) false) ms)) first
+  pub is_least : IsLeast (Contains (scan entered (replicate (length graph) false) ms)) first

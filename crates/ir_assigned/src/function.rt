@@ -1,19 +1,18 @@
 //! The unassigned uses of one function.
 ghost use Rattle.std.specs.Prelude.{◌≡◌, ◌<◌, ℕ, List, length, map, IfOk};
-ghost use Rattle.ir_rules.specs.Least.{IsLeast};
+ghost use Rattle.ir_rules.specs.Least.{AnyOf, IsLeast};
 ghost use Rattle.ir_rules.specs.Occurrences.{block_events, param_event};
 ghost use Rattle.ir_rules.specs.Seen.{event_of, seen};
 ghost use Rattle.ir_assigned.specs.Graph.{assigns, successors};
 ghost use Rattle.ir_assigned.specs.Mentions.{mentions_from, mentions_in};
-ghost use Rattle.ir_assigned.specs.Faults.{AnyOf, RegisterFault, EventFault, FunctionFault};
+ghost use Rattle.ir_assigned.specs.Faults.{RegisterFault, EventFault, FunctionFault};
 
 use crate::graph::graph;
 use crate::mentions::{Mention, mentions, mentions_of};
 use crate::search::search;
 use bsan_ids::{ListOf, NoMemory};
 use ir_ast::{Function, Param};
-use ir_rules::{Occurrence, Role, function_occurrences};
-use ir_rules::{Fault, lesser_fault};
+use ir_rules::{Fault, Occurrence, Role, function_occurrences, lesser_fault};
 use std::alloc::Global;
 use std::collections::BTreeMap;
 

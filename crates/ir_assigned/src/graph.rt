@@ -1,36 +1,18 @@
 //! The flow graph of a function's blocks.
-ghost use Rattle.std.specs.Prelude.{◌≡◌, ◌++◌, ℕ, List, map, IfOk, OnOk};
+ghost use Rattle.std.specs.Prelude.{◌≡◌, ◌++◌, map, IfOk, OnOk};
 ghost use Rattle.std.specs.List.{flat_map};
 ghost use Rattle.std.specs.BTreeMap as tree;
 ghost use Rattle.std.specs.Cmp.Lexicographic.{slice_cmp};
 ghost use Rattle.std.specs.Ordering.{nat_cmp};
-ghost use Rattle.ir_rules.specs.Paths.{block_place};
 ghost use Rattle.ir_rules.specs.Occurrences.{jump_goals};
+ghost use Rattle.ir_rules.specs.Walk.{Finds};
 ghost use Rattle.ir_assigned.specs.Graph.{listed, successors};
 
 use bsan_ids::{ListOf, NoMemory};
 use ir_ast::{Block, Goal, Jump};
-use ir_rules::first_places;
+use ir_rules::label_places;
 use std::alloc::Global;
 use std::collections::BTreeMap;
-
-fn label_names(alloc: Global, blocks: &[Block]) -> Result<Vec<&[u8]>, NoMemory>
-    ensures { IfOk result (λ names. map (λ w. w.now) names.items ≡ map (λ b. b.label.name) blocks.now) }
-{
-    let mut names = Vec::new(alloc);
-    for block in blocks {
-        names.push(block.label.name.as_slice())?;
-    }
-    Ok(names)
-}
-
-/// For each label, the first block that has it.
-fn labels(alloc: Global, blocks: &[Block]) -> Result<BTreeMap<&[u8], usize>, NoMemory>
-    ensures { IfOk result (λ m. (q : List ℕ) → tree.get_by (λ k. slice_cmp nat_cmp q k.now) m ≡ block_place blocks.now q) }
-{
-    let names = label_names(alloc, blocks)?;
-    Ok(first_places(alloc, &names)?)
-}
 
 fn note_goal(
     next: &mut Vec<usize>,
@@ -70,7 +52,7 @@ fn next_blocks(
     block: &Block,
     labels: &BTreeMap<&[u8], usize>,
 ) -> Result<ListOf<usize>, NoMemory>
-    requires { (q : List ℕ) → tree.get_by (λ k. slice_cmp nat_cmp q k.now) labels.now ≡ block_place blocks.now q }
+    requires { Finds (λ b. b.label.name) blocks.now labels.now }
     ensures { IfOk result (λ next. next ≡ successors blocks.now block.now) }
 {
     let mut next = Vec::new(alloc);
@@ -82,11 +64,10 @@ fn next_blocks(
 pub fn graph(alloc: Global, blocks: &[Block]) -> Result<Vec<ListOf<usize>>, NoMemory>
     ensures { IfOk result (λ graph. graph.items ≡ map (successors blocks.now) blocks.now) }
 {
-    let labels = labels(alloc, blocks)?;
+    let labels = label_places(alloc, blocks)?;
     let mut nodes = Vec::new(alloc);
     for block in blocks {
-        let next = next_blocks(alloc, blocks, block, &labels)?;
-        nodes.push(next)?;
+        nodes.push(next_blocks(alloc, blocks, block, &labels)?)?;
     }
     Ok(nodes)
 }

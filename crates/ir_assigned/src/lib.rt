@@ -19,7 +19,11 @@ use std::alloc::Global;
 /// The first use in the program that the rule `Unassigned` refuses: some path of blocks from its
 /// function's first block leads to it, and neither a parameter of the function nor anything on the
 /// path before the use defines the register. A register that its function defines nowhere isn't
-/// among them. The error is that no memory is left.
+/// among them.
+///
+/// # Errors
+///
+/// `NoMemory`: out of memory.
 pub fn unassigned(alloc: Global, program: &Program) -> Result<Option<Fault>, NoMemory>
     ensures { IfOk result (λ first. IsLeast (UnassignedFault program.now) first) }
 {

@@ -78,9 +78,9 @@ pub fn mentions(alloc: Global, blocks: &[Block]) -> Result<BTreeMap<&[u8], Vec<M
     ensures { IfOk result (λ table. (q : List ℕ) → mentions_in table q ≡ mentions_from q 0 (map block_events blocks.now)) }
 {
     let mut table = BTreeMap::new(alloc);
-    for place in 0..blocks.len() {
+    for (place, block) in blocks.iter().enumerate() {
         let mut occurrences = Vec::new(alloc);
-        note_block(&mut occurrences, &blocks[place])?;
+        note_block(&mut occurrences, block)?;
         note_mentions(alloc, &mut table, place, &occurrences)?;
     }
     Ok(table)

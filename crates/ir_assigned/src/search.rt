@@ -1,8 +1,7 @@
 //! The search for the unassigned uses of one register.
-ghost use Rattle.std.specs.Prelude.{◌≡◌, ◌<◌, false, length, replicate, All, IfOk};
+ghost use Rattle.std.specs.Prelude.{◌≡◌, ◌<◌, false, length, replicate, All, Contains, IfOk};
 ghost use Rattle.flow_paths.specs.Paths.{IsInside};
 ghost use Rattle.ir_rules.specs.Least.{IsLeast};
-ghost use Rattle.ir_assigned.specs.Graph.{In};
 ghost use Rattle.ir_assigned.specs.Mentions.{define, defined, mention_fault, scan, Found};
 
 use crate::mentions::Mention;
@@ -59,7 +58,7 @@ fn early_use(
     entered: &[bool],
 ) -> Result<Option<Fault>, NoMemory>
     requires { All (λ m. m.block < length entered.now) mentions.now }
-    ensures { IfOk result (λ first. IsLeast (In (scan entered.now (replicate (length entered.now) false) mentions.now)) first) }
+    ensures { IfOk result (λ first. IsLeast (Contains (scan entered.now (replicate (length entered.now) false) mentions.now)) first) }
 {
     let mut marks = vec![in alloc; false; entered.len()]?;
     let mut first = None;

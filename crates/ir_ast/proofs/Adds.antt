@@ -9,7 +9,7 @@ use Rattle.ir_ast.specs.Tokens.Form.{word, local, global, number, open_round, cl
 use Rattle.ir_ast.specs.Keywords.{type_word, result_word, op_word}
 use Rattle.ir_ast.specs.Grammar.{val_form, goal_tokens, op_tokens, ret_tokens, jump_word, jump_tokens}
 use Rattle.ir_ast.specs.Lines.{Line, attr_tokens, result_tokens, param_register, param_tokens, next_params, params_tokens, block_params, inst_tokens, inst_line, term_line, label_line, header_line, first_line, outer}
-use Rattle.ir_ast.specs.Texts.{spaced, opens, hugs, space, form_text, line_text}
+use Rattle.ir_ast.specs.Texts.{spaced, no_space_after, no_space_before, space, form_text, line_text}
 use Rattle.ir_ast.specs.Written.{tight_after, Adds, Begins, AddsText, dest_forms, next_param, inst_text}
 use Rattle.ir_ast.specs.declared.writer.Writer.{Writer}
 use Rattle.ir_ast.specs.declared.program.Named.{Named}
@@ -30,12 +30,12 @@ forms-join (x ∷ xs) ys = ap (λ (z : List Form). x.form ∷ z) (forms-join xs 
 pub spaced-join : (t : Bool) (fs gs : List Form) → spaced t (fs ++ gs) ≡ spaced t fs ++ spaced (tight_after t fs) gs
 spaced-join t [] gs = refl
 spaced-join t (f ∷ fs) gs =
-    ap (λ (z : List ℕ). (space (t || hugs f) ++ form_text f) ++ z) (spaced-join (opens f) fs gs)
-    ∙ sym (append_assoc (space (t || hugs f) ++ form_text f) (spaced (opens f) fs) (spaced (tight_after (opens f) fs) gs))
+    ap (λ (z : List ℕ). (space (t || no_space_before f) ++ form_text f) ++ z) (spaced-join (no_space_after f) fs gs)
+    ∙ sym (append_assoc (space (t || no_space_before f) ++ form_text f) (spaced (no_space_after f) fs) (spaced (tight_after (no_space_after f) fs) gs))
 
 tight-join : (t : Bool) (fs gs : List Form) → tight_after t (fs ++ gs) ≡ tight_after (tight_after t fs) gs
 tight-join t [] gs = refl
-tight-join t (f ∷ fs) gs = tight-join (opens f) fs gs
+tight-join t (f ∷ fs) gs = tight-join (no_space_after f) fs gs
 
 pub adds_none : (a : Writer) → Adds a a []
 adds_none a = record { text = sym (append-nil a.text.items); tight = refl }

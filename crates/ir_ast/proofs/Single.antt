@@ -1,5 +1,5 @@
 -- That a program is one that the grammar can give has one proof at most.
-use Rattle.std.proofs.Common.{◌≡◌, ℕ, ◌<◌, ◌≤◌, List, [], ◌∷◌, length, Option, Some, None}
+use Rattle.std.proofs.Common.{ℕ, ◌<◌, ◌≤◌, List, [], ◌∷◌, length, Option, Some, None}
 use Rattle.std.specs.Prelude.{IfSome}
 use Rattle.std.proofs.Props.{props}
 use Rattle.std.specs.Coded.{×_prop, Unit-prop}
@@ -9,10 +9,10 @@ use Rattle.perm_table.specs.declared.RetagKind.TheVariants.{Mut, Cell, Shr, Boxe
 use Rattle.ir_ast.specs.Tokens.{Form, Asked, Each, Limit}
 use Rattle.ir_ast.specs.Tokens.Form.{word, local, global}
 use Rattle.ir_ast.specs.Lines.{spell}
-use Rattle.ir_ast.specs.Shapes.{HasKind, IsVal, IsTyped, IsGoal, IsOp, HasType, Defines, StandsAlone, FitsDestination, IsInst, IsJump, FitsAttr, IsParam, IsBlockParam, IsResult, IsBlock, IsFunction, IsShaped}
+use Rattle.ir_ast.specs.Shapes.{HasKind, IsVal, IsTyped, IsGoal, IsOp, HasType, Defines, StandsAlone, FitsDestination, IsInst, IsJump, FitsAttr, IsParam, IsBlockParam, IsBlock, IsFunction, IsShaped}
 use Rattle.ir_ast.specs.Programs.{IsPossible, CanStand, IsProgram}
 use Rattle.ir_ast.specs.Writable.{IsWord, IsName}
-use Rattle.ir_ast.specs.declared.types.Width.TheVariants.{W8, W64}
+use Rattle.ir_ast.specs.declared.types.Width.TheVariants.{W64}
 use Rattle.ir_ast.specs.declared.types.Ty.{Ty}
 use Rattle.ir_ast.specs.declared.types.Ty.TheVariants.{Int, Ptr}
 use Rattle.ir_ast.specs.declared.types.Attr.{Attr}
@@ -21,7 +21,6 @@ use Rattle.ir_ast.specs.declared.program.Val.{Val}
 use Rattle.ir_ast.specs.declared.program.Val.TheVariants.{Reg, Num}
 use Rattle.ir_ast.specs.declared.program.TypedVal.{TypedVal}
 use Rattle.ir_ast.specs.declared.program.Goal.{Goal}
-use Rattle.ir_ast.specs.declared.program.Param.{Param}
 use Rattle.ir_ast.specs.declared.program.Inst.{Inst}
 use Rattle.ir_ast.specs.declared.program.Op.{Op}
 use Rattle.ir_ast.specs.declared.program.Op.TheVariants as op

@@ -1,19 +1,19 @@
 -- The tokens of a writable program that keeps the limits can stand in a text.
-use Rattle.std.proofs.Common.{◌≡◌, ℕ, suc, ◌+◌, ◌^◌, ◌<◌, ◌≤◌, Bool, true, false, List, [], ◌∷◌, ◌++◌, length, Option, Some, None, refl, sym, ap, arith}
-use Rattle.std.specs.Prelude.{codes, if◌then◌else◌, is_some, IfSome}
+use Rattle.std.proofs.Common.{◌≡◌, ℕ, suc, ◌+◌, ◌^◌, ◌<◌, ◌≤◌, List, [], ◌∷◌, ◌++◌, length, Option, Some, None, refl, arith}
+use Rattle.std.specs.Prelude.{if◌then◌else◌, is_some, IfSome}
 use Rattle.std.specs.List.{flat_map, sum_by}
 use Rattle.std.proofs.lemmas.Bool.{lt-ltb}
 use Rattle.std.proofs.lemmas.List.Sums.{sum_by-cons}
 use Rattle.perm_table.specs.declared.RetagKind.{RetagKind}
 use Rattle.perm_table.specs.declared.RetagKind.TheVariants as kind
 use Rattle.ir_ast.specs.Words.{modulus}
-use Rattle.ir_ast.specs.Tokens.{Asked, Each, Limit, plain, placed, keyword, below, amount, counted}
+use Rattle.ir_ast.specs.Tokens.{Asked, Each, Limit, plain, keyword, below, amount, counted}
 use Rattle.ir_ast.specs.Tokens.Limit.{of_number, of_count}
-use Rattle.ir_ast.specs.Tokens.Form.{word, number, close_round, open_brace, close_brace, comma, colon, arrow}
+use Rattle.ir_ast.specs.Tokens.Form.{close_round, open_brace, close_brace, comma, colon, arrow}
 use Rattle.ir_ast.specs.Keywords.{width_word, type_word, result_word, kind_word, cond_word, modify_word, op_word}
-use Rattle.ir_ast.specs.Grammar.{numbers_of, val_token, typed_tokens, next_tokens, values_tokens, args_tokens, goal_args_tokens, goal_tokens, op_tokens, ret_tokens, jump_word, jump_tokens, type_token, label, register, result_token}
-use Rattle.ir_ast.specs.Lines.{Line, most_functions, most_instructions, most_registers, attr_tokens, result_tokens, param_register, param_tokens, next_params, params_tokens, block_params, either, inst_tokens, inst_line, definitions, inst_lines, term_line, label_line, block_lines, block_instructions, block_registers, blocks_lines, header_line, outer, function_lines, functions_lines, first_line, program_lines}
-use Rattle.ir_ast.specs.Writable.{IsWord, IsName, HasName, HasLabel, IsWritableVal, IsWritableTyped, IsWritableGoal, IsWritableOp, IsWritableInst, IsWritableJump, IsWritableAttr, IsWritableParam, IsWritableBlock, IsWritableFunction, IsWritable}
+use Rattle.ir_ast.specs.Grammar.{numbers_of, val_token, next_tokens, values_tokens, args_tokens, goal_args_tokens, goal_tokens, op_tokens, ret_tokens, jump_word, jump_tokens, type_token, register}
+use Rattle.ir_ast.specs.Lines.{Line, most_functions, most_instructions, most_registers, attr_tokens, result_tokens, param_register, param_tokens, next_params, params_tokens, block_params, either, inst_tokens, definitions, inst_lines, term_line, label_line, block_lines, block_instructions, block_registers, blocks_lines, header_line, outer, function_lines, functions_lines, first_line, program_lines}
+use Rattle.ir_ast.specs.Writable.{IsWord, HasName, IsWritableVal, IsWritableTyped, IsWritableGoal, IsWritableOp, IsWritableInst, IsWritableJump, IsWritableAttr, IsWritableParam, IsWritableBlock, IsWritableFunction, IsWritable}
 use Rattle.ir_ast.specs.Shapes.{IsShaped}
 use Rattle.ir_ast.specs.Programs.{CanStand, IsProgram, function_instructions, function_registers, KeepsLimits}
 use Rattle.ir_ast.proofs.Small.{each_join}
@@ -23,7 +23,6 @@ use Rattle.ir_ast.specs.declared.types.Ty.{Ty}
 use Rattle.ir_ast.specs.declared.types.Ty.TheVariants.{Int, Ptr}
 use Rattle.ir_ast.specs.declared.types.Place.TheVariants.{Stack, Heap}
 use Rattle.ir_ast.specs.declared.types.Attr.{Attr}
-use Rattle.ir_ast.specs.declared.types.ResultTy.{ResultTy}
 use Rattle.ir_ast.specs.declared.operators.BinaryOp.TheVariants as binary
 use Rattle.ir_ast.specs.declared.operators.Cond.{Cond}
 use Rattle.ir_ast.specs.declared.operators.Cond.TheVariants as cond
@@ -41,7 +40,6 @@ use Rattle.ir_ast.specs.declared.program.Op.{Op}
 use Rattle.ir_ast.specs.declared.program.Op.TheVariants as op
 use Rattle.ir_ast.specs.declared.program.Jump.{Jump}
 use Rattle.ir_ast.specs.declared.program.Jump.TheVariants.{Br, CondBr, Ret, Unreachable}
-use Rattle.ir_ast.specs.declared.program.Term.{Term}
 use Rattle.ir_ast.specs.declared.program.Block.{Block}
 use Rattle.ir_ast.specs.declared.program.Function.{Function}
 use Rattle.ir_ast.specs.declared.program.Program.{Program}

@@ -45,7 +45,7 @@ function_name f = placed (global f.name) f.at
 abbrev pub label : Named → Asked
 label l = placed (word l.name) l.at
 
--- how many numbers can stand where a value of this type is asked for
+-- how many numbers a value of this type can be
 abbrev pub numbers_of : Ty → ℕ
 numbers_of (Int width) = modulus width
 numbers_of Ptr = 0
@@ -97,7 +97,7 @@ goal_tokens g = label g.label ∷ goal_args_tokens g.args
 
 -- ---- instructions and terminators
 
--- the tokens behind an operation's first word
+-- the tokens after an operation's first word
 abbrev pub op_tokens : Op → List Asked
 op_tokens (op.Const width value) = width_token width ∷ amount value (modulus width) ∷ []
 op_tokens op.Null = []
@@ -132,7 +132,7 @@ jump_word (CondBr cond first second) = codes "condbr"
 jump_word (Ret val ty_at) = codes "ret"
 jump_word Unreachable = codes "unreachable"
 
--- the tokens behind a terminator's first word
+-- the tokens after a terminator's first word
 abbrev pub jump_tokens : Jump → List Asked
 jump_tokens (Br goal) = goal_tokens goal
 jump_tokens (CondBr cond first second) = val_token (Int W8) cond ∷ plain comma ∷ goal_tokens first ++ (plain comma ∷ goal_tokens second)

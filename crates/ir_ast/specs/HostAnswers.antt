@@ -5,7 +5,7 @@ use Rattle.ir_ast.specs.declared.hosts.HostEntry.{HostEntry}
 use Rattle.ir_ast.specs.declared.hosts.HostRule.{HostRule}
 use Rattle.ir_ast.specs.declared.hosts.HostRule.TheVariants.{Min, Max, Popcount, ByteSwap, Any}
 
--- the rule lets the function answer this, where it is handed these two words
+-- the rule lets the function answer this, where these are its first two arguments
 abbrev pub Allows : HostRule → ℕ → ℕ → ℕ → Type 0
 Allows Min first second answer = answer ≡ min first second
 Allows Max first second answer = answer ≡ max first second

@@ -6,6 +6,7 @@ pub mod Grammar
 pub mod Shapes
 pub mod Lines
 pub mod Texts
+pub mod Marks
 pub mod Written
 pub mod Writable
 pub mod Programs

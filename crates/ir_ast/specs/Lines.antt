@@ -1,10 +1,11 @@
--- The lines of a program, each with the tokens that stand on it; and all of its tokens.
+-- The lines of a program, each with its tokens; and all of its tokens.
 use Rattle.std.specs.Prelude.{ℕ, suc, ◌+◌, true, false, if◌then◌else◌, List, [], ◌∷◌, ◌++◌, length, codes, Option, Some, None, is_some}
 use Rattle.std.specs.List.{flat_map, sum_by}
 use Rattle.ir_ast.specs.Tokens.{Limit, Asked, plain, keyword, counted}
 use Rattle.ir_ast.specs.Tokens.Form.{word, local, number, open_round, close_round, open_brace, close_brace, comma, colon, equals, arrow}
 use Rattle.ir_ast.specs.Keywords.{result_word, op_word}
 use Rattle.ir_ast.specs.Grammar.{type_token, kind_token, size_token, label, function_name, op_tokens, jump_word, jump_tokens}
+use Rattle.ir_ast.specs.declared.bounds.TheConstants.{MOST_FUNCTIONS, MOST_INSTRUCTIONS, MOST_REGISTERS}
 use Rattle.ir_ast.specs.declared.types.Attr.{Attr}
 use Rattle.ir_ast.specs.declared.types.ResultTy.{ResultTy}
 use Rattle.ir_ast.specs.declared.program.Named.{Named}
@@ -18,15 +19,15 @@ use Rattle.ir_ast.specs.declared.program.Program.{Program}
 
 -- the most functions of a program, instructions of a program and registers of a function
 abbrev pub most_functions : ℕ
-most_functions = 256
+most_functions = MOST_FUNCTIONS
 
 abbrev pub most_instructions : ℕ
-most_instructions = 65536
+most_instructions = MOST_INSTRUCTIONS
 
 abbrev pub most_registers : ℕ
-most_registers = 1024
+most_registers = MOST_REGISTERS
 
--- Below, `functions`, `instructions` and `registers` are how many stand before: functions and instructions in the
+-- Below, `functions`, `instructions` and `registers` are how many come before: functions and instructions in the
 -- program, registers in the function.
 
 abbrev pub attr_tokens : Option Attr → List Asked

@@ -27,7 +27,7 @@ function_place fs name = place (function_names fs) name
 abbrev pub block_place : List Block → List ℕ → ℕ
 block_place bs label = place (labels bs) label
 
--- the number behind the last instruction of these blocks, where the first has the number n
+-- the number after that of the last instruction of these blocks, where the first has the number n
 abbrev pub blocks_end : ℕ → List Block → ℕ
 blocks_end n [] = n
 blocks_end n (b ∷ bs) = blocks_end (n + block_instructions b) bs

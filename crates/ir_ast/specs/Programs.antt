@@ -16,7 +16,7 @@ IsPossible (local name) = IsName name
 IsPossible (global name) = IsName name
 IsPossible _ = Unit {0}
 
--- the token can stand in a text, and nothing is past its limit there
+-- a text can have the token, and nothing is past its limit there
 abbrev pub CanStand : Asked → Type 0
 CanStand a = IsPossible a.form × (a.fault ≡ None)
 

@@ -35,7 +35,7 @@ HasKind version Shr = Unit {0}
 HasKind version Boxed = Unit {0}
 HasKind version ShrCell = 2 ≤ version
 
--- a number stands only where the type is an integer's
+-- a number only where the type is an integer's
 abbrev pub IsVal : Ty → Val → Type 0
 IsVal ty (Reg r) = Unit {0}
 IsVal (Int width) (Num n) = Unit {0}
@@ -76,7 +76,7 @@ abbrev pub HasType : Option Ty → Type 0
 HasType None = ⊥
 HasType (Some ty) = Unit {0}
 
--- a register and `=` may stand before the operation
+-- a register and `=` may come before the operation
 abbrev pub Defines : Op → Type 0
 Defines (op.Store ty val ptr) = ⊥
 Defines (op.Copy to from len) = ⊥
@@ -109,7 +109,7 @@ IsJump (CondBr cond first second) = IsVal (Int W8) cond × IsGoal first × IsGoa
 IsJump (Ret val ty_at) = IfSome val IsTyped
 IsJump Unreachable = Unit {0}
 
--- an attribute stands only at `ptr`
+-- an attribute only at `ptr`
 abbrev pub FitsAttr : ℕ → Option Ty → Option Attr → Type 0
 FitsAttr version ty None = Unit {0}
 FitsAttr version ty (Some attr) = (ty ≡ Some Ptr) × HasKind version attr.kind

@@ -21,18 +21,18 @@ form_text colon = codes ":"
 form_text equals = codes "="
 form_text arrow = codes "->"
 
--- no space stands before these
-abbrev pub hugs : Form → Bool
-hugs comma = true
-hugs open_round = true
-hugs close_round = true
-hugs colon = true
-hugs _ = false
+-- no space comes before these
+abbrev pub no_space_before : Form → Bool
+no_space_before comma = true
+no_space_before open_round = true
+no_space_before close_round = true
+no_space_before colon = true
+no_space_before _ = false
 
--- no space stands behind this
-abbrev pub opens : Form → Bool
-opens open_round = true
-opens _ = false
+-- no space comes after this
+abbrev pub no_space_after : Form → Bool
+no_space_after open_round = true
+no_space_after _ = false
 
 abbrev pub space : Bool → List ℕ
 space true = []
@@ -41,7 +41,7 @@ space false = codes " "
 -- The tokens with a space before each but those that take none. `tight` says that none is due before the first.
 abbrev pub spaced : Bool → List Form → List ℕ
 spaced tight [] = []
-spaced tight (f ∷ fs) = space (tight || hugs f) ++ form_text f ++ spaced (opens f) fs
+spaced tight (f ∷ fs) = space (tight || no_space_before f) ++ form_text f ++ spaced (no_space_after f) fs
 
 abbrev pub line_text : Line → List ℕ
 line_text line = replicate line.indent 32 ++ spaced true (forms line.tokens) ++ codes "\n"

@@ -32,7 +32,7 @@ pub data Limit : Type 0 where
   of_count : Limit
 
 -- What a program asks of one token: its form; its place, as often as the program keeps it; whether an operation
--- stands there, behind a register and `=`; and which limit it is past, if it is.
+-- is there, after a register and `=`; and which limit it is past, if it is.
 pub record Asked : Type 0 where
   pub form : Form
   pub at : List ℕ
@@ -78,6 +78,6 @@ below n most limit = if nat_lt n most then None else Some limit
 abbrev pub amount : ℕ → ℕ → Asked
 amount n bound = record { form = number n; at = []; is_operation = false; fault = below n bound of_number }
 
--- one more where so many stand before it, and at most so many are allowed
+-- one more after `before` of them, where `most` are allowed
 abbrev pub counted : ℕ → ℕ → Option Limit
 counted before most = below before most of_count

@@ -1,5 +1,5 @@
 -- What of a program can stand in a text: names that tokens can have, and numbers in the range of their places.
-use Rattle.std.specs.Prelude.{◌≡◌, ℕ, ◌^◌, ◌<◌, true, List, [], ◌∷◌, length, Option, Some, None, IfSome}
+use Rattle.std.specs.Prelude.{◌≡◌, ℕ, ◌^◌, ◌<◌, true, List, [], ◌∷◌, length, Option, IfSome}
 use Rattle.std.specs.List.{list_all}
 use Rattle.bsan_ids.specs.Names.{is_start, is_name}
 use Rattle.ir_ast.specs.Words.{modulus}

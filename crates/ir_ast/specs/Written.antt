@@ -2,32 +2,20 @@
 use Rattle.std.specs.Prelude.{◌≡◌, ℕ, Bool, true, List, [], ◌∷◌, ◌++◌, Option, Some, None}
 use Rattle.std.specs.List.{flat_map}
 use Rattle.ir_ast.specs.Tokens.{Form, Asked, plain}
-use Rattle.ir_ast.specs.Tokens.Form.{local, open_round, close_round, open_brace, close_brace, comma, colon, equals, arrow}
+use Rattle.ir_ast.specs.Tokens.Form.{local, close_brace, comma, equals}
 use Rattle.ir_ast.specs.Lines.{param_tokens, inst_line, label_line, term_line, header_line, outer}
-use Rattle.ir_ast.specs.Texts.{spaced, opens, line_text}
+use Rattle.ir_ast.specs.Texts.{spaced, no_space_after, line_text}
 use Rattle.ir_ast.specs.declared.writer.Writer.{Writer}
-use Rattle.ir_ast.specs.declared.writer.Mark.{Mark}
-use Rattle.ir_ast.specs.declared.writer.Mark.TheVariants.{OpenRound, CloseRound, OpenBrace, CloseBrace, Comma, Colon, Equals, Arrow}
 use Rattle.ir_ast.specs.declared.program.Named.{Named}
 use Rattle.ir_ast.specs.declared.program.Param.{Param}
 use Rattle.ir_ast.specs.declared.program.Inst.{Inst}
 use Rattle.ir_ast.specs.declared.program.Block.{Block}
 use Rattle.ir_ast.specs.declared.program.Function.{Function}
 
-abbrev pub mark_form : Mark → Form
-mark_form OpenRound = open_round
-mark_form CloseRound = close_round
-mark_form OpenBrace = open_brace
-mark_form CloseBrace = close_brace
-mark_form Comma = comma
-mark_form Colon = colon
-mark_form Equals = equals
-mark_form Arrow = arrow
-
--- whether no space is due behind these tokens
+-- whether no space is due after these tokens
 abbrev pub tight_after : Bool → List Form → Bool
 tight_after tight [] = tight
-tight_after tight (f ∷ fs) = tight_after (opens f) fs
+tight_after tight (f ∷ fs) = tight_after (no_space_after f) fs
 
 -- these tokens were added
 pub record Adds (old new : Writer) (fs : List Form) : Type 0 where

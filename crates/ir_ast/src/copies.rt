@@ -1,6 +1,4 @@
 //! Programs and tables of hosts once more, with memory of their own.
-ghost use Rattle.std.specs.Prelude.{◌≡◌, IfOk};
-
 use crate::hosts::{HostEntry, HostTable};
 use crate::program::{
     Block, Function, Goal, Inst, Jump, Named, Op, Param, Program, Term, TypedVal, Val,
@@ -48,7 +46,7 @@ impl Copied for Goal {
     fn copy(&self) -> Result<Goal, NoMemory> {
         Ok(Goal {
             label: self.label.copy()?,
-            args: self.args.copy_each()?,
+            args: self.args.copy()?,
         })
     }
 }
@@ -157,16 +155,16 @@ impl Copied for Op {
             } => Op::Call {
                 result: *result,
                 function: function.copy()?,
-                args: args.copy_each()?,
+                args: args.copy()?,
             },
             Op::Host { result, host, args } => Op::Host {
                 result: *result,
                 host: host.copy()?,
-                args: args.copy_each()?,
+                args: args.copy()?,
             },
             Op::Spawn { function, args } => Op::Spawn {
                 function: function.copy()?,
-                args: args.copy_each()?,
+                args: args.copy()?,
             },
             Op::Join {
                 result,
@@ -181,32 +179,14 @@ impl Copied for Op {
     }
 }
 
-fn copied_register(register: &Option<Named>) -> Result<Option<Named>, NoMemory>
-    ensures { IfOk result (λ copy. copy ≡ register.now) }
-{
-    Ok(match register {
-        Some(register) => Some(register.copy()?),
-        None => None,
-    })
-}
-
 impl Copied for Inst {
     fn copy(&self) -> Result<Inst, NoMemory> {
         Ok(Inst {
-            dest: copied_register(&self.dest)?,
+            dest: self.dest.copy()?,
             at: self.at,
             op: self.op.copy()?,
         })
     }
-}
-
-fn copied_val(val: &Option<TypedVal>) -> Result<Option<TypedVal>, NoMemory>
-    ensures { IfOk result (λ copy. copy ≡ val.now) }
-{
-    Ok(match val {
-        Some(val) => Some(val.copy()?),
-        None => None,
-    })
 }
 
 impl Copied for Jump {
@@ -219,7 +199,7 @@ impl Copied for Jump {
                 no: no.copy()?,
             },
             Jump::Ret { val, ty_at } => Jump::Ret {
-                val: copied_val(val)?,
+                val: val.copy()?,
                 ty_at: *ty_at,
             },
             Jump::Unreachable => Jump::Unreachable,
@@ -240,8 +220,8 @@ impl Copied for Block {
     fn copy(&self) -> Result<Block, NoMemory> {
         Ok(Block {
             label: self.label.copy()?,
-            params: self.params.copy_each()?,
-            insts: self.insts.copy_each()?,
+            params: self.params.copy()?,
+            insts: self.insts.copy()?,
             term: self.term.copy()?,
         })
     }
@@ -251,9 +231,9 @@ impl Copied for Function {
     fn copy(&self) -> Result<Function, NoMemory> {
         Ok(Function {
             name: self.name.copy()?,
-            params: self.params.copy_each()?,
+            params: self.params.copy()?,
             result: self.result,
-            blocks: self.blocks.copy_each()?,
+            blocks: self.blocks.copy()?,
         })
     }
 }
@@ -262,7 +242,7 @@ impl Copied for Program {
     fn copy(&self) -> Result<Program, NoMemory> {
         Ok(Program {
             version: self.version,
-            functions: self.functions.copy_each()?,
+            functions: self.functions.copy()?,
             end: self.end,
         })
     }
@@ -281,7 +261,7 @@ impl Copied for HostEntry {
 impl Copied for HostTable {
     fn copy(&self) -> Result<HostTable, NoMemory> {
         Ok(HostTable {
-            entries: self.entries.copy_each()?,
+            entries: self.entries.copy()?,
         })
     }
 }

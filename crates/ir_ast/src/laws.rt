@@ -17,8 +17,8 @@ pub fn keeps_limits()
     ensures { (p : Program) → IsProgram p → KeepsLimits p }
 {}
 
-/// A program is one that the grammar can give where its parts stand as the grammar has them, its
-/// names and numbers can stand in a text, and it keeps the limits.
+/// A program is one that the grammar can give where its parts are as the grammar has them, a
+/// text can have its names and numbers, and it keeps the limits.
 pub fn given_by_parts()
     ensures { (p : Program) → IsShaped p → IsWritable p → KeepsLimits p → IsProgram p }
 {}

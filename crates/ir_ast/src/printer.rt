@@ -1,5 +1,5 @@
 //! The canonical text of a program.
-ghost use Rattle.std.specs.Prelude.{◌≡◌, [], ◌∷◌, ◌++◌, OnOk, IfOk};
+ghost use Rattle.std.specs.Prelude.{◌≡◌, [], ◌∷◌, ◌++◌, codes, OnOk, IfOk};
 ghost use Rattle.std.specs.List.{flat_map};
 ghost use Rattle.ir_ast.specs.Tokens.{forms, plain};
 ghost use Rattle.ir_ast.specs.Tokens.Form.{word, local, global, comma, close_brace};
@@ -8,8 +8,11 @@ ghost use Rattle.ir_ast.specs.Grammar.{val_form, typed_tokens, next_tokens, valu
 ghost use Rattle.ir_ast.specs.Lines.{attr_tokens, param_tokens, params_tokens, round_params, block_params, label_line, term_line, header_line, first_line, outer};
 ghost use Rattle.ir_ast.specs.Texts.{line_text, canonical};
 ghost use Rattle.ir_ast.specs.Written.{Adds, AddsText, dest_forms, next_param, inst_text, block_text, function_text};
+ghost use Rattle.ir_ast.specs.declared.program.Op.TheVariants.{Retag, Compare, Select, Modify, CmpXchg, Copy};
 ghost use Rattle.ir_ast.specs.declared.program.Jump.TheVariants.{CondBr};
 
+use crate::mark::Mark;
+use crate::operators::{Cond, ModifyOp};
 use crate::program::{
     Block, Function, Goal, Inst, Jump, Named, Op, Param, Program, Term, TypedVal, Val,
 };
@@ -17,8 +20,9 @@ use crate::types::{Attr, Ty, Width};
 use crate::words::{
     cond_word, jump_word, kind_word, modify_word, op_word, result_word, type_word, width_word,
 };
-use crate::writer::{Mark, Writer};
+use crate::writer::Writer;
 use bsan_ids::NoMemory;
+use perm_table::RetagKind;
 use std::alloc::Global;
 
 fn write_type(to: &mut Writer, ty: Ty) -> Result<(), NoMemory>
@@ -149,18 +153,111 @@ fn write_goal(to: &mut Writer, goal: &Goal) -> Result<(), NoMemory>
     }
 }
 
-/// The tokens of an operation behind its first word.
+/// The operands of a retag.
+#[tactic(auto, using(crate::proofs::Adds::adds_steps))]
+fn write_retag(to: &mut Writer, kind: RetagKind, ptr: &Named, size: u32) -> Result<(), NoMemory>
+    ensures { OnOk result (Adds to.old to.new (forms (op_tokens (Retag kind ptr.now size)))) }
+{
+    to.word(kind_word(kind).as_bytes())?;
+    write_register(to, ptr)?;
+    to.mark(Mark::Comma)?;
+    to.number(u64::from(size))
+}
+
+/// The operands of a comparison.
+#[tactic(auto, using(crate::proofs::Adds::adds_steps))]
+fn write_compare(to: &mut Writer, cond: Cond, ty: Ty, a: &Val, b: &Val) -> Result<(), NoMemory>
+    ensures { OnOk result (Adds to.old to.new (forms (op_tokens (Compare cond ty a.now b.now)))) }
+{
+    to.word(cond_word(cond).as_bytes())?;
+    write_type(to, ty)?;
+    write_val(to, a)?;
+    write_next_val(to, b)
+}
+
+/// The operands of a choice between two values.
+#[tactic(auto, using(crate::proofs::Adds::adds_steps))]
+fn write_select(to: &mut Writer, ty: Ty, cond: &Val, a: &Val, b: &Val) -> Result<(), NoMemory>
+    ensures { OnOk result (Adds to.old to.new (forms (op_tokens (Select ty cond.now a.now b.now)))) }
+{
+    write_type(to, ty)?;
+    write_val(to, cond)?;
+    write_next_val(to, a)?;
+    write_next_val(to, b)
+}
+
+/// The operands of a cast.
+#[tactic(auto, using(crate::proofs::Adds::adds_steps))]
+fn write_cast(to: &mut Writer, from: Width, val: &Val, width: Width) -> Result<(), NoMemory>
+    ensures { OnOk result (Adds to.old to.new (word (width_word from) ∷ val_form val.now ∷ word (codes "to") ∷ word (width_word width) ∷ [])) }
+{
+    write_width(to, from)?;
+    write_val(to, val)?;
+    to.word(b"to")?;
+    write_width(to, width)
+}
+
+/// The operands of a read-modify-write.
+#[tactic(auto, using(crate::proofs::Adds::adds_steps))]
+fn write_modify(
+    to: &mut Writer,
+    op: ModifyOp,
+    width: Width,
+    ptr: &Named,
+    val: &Val,
+) -> Result<(), NoMemory>
+    ensures { OnOk result (Adds to.old to.new (forms (op_tokens (Modify op width ptr.now val.now)))) }
+{
+    to.word(modify_word(op).as_bytes())?;
+    write_width(to, width)?;
+    write_register(to, ptr)?;
+    write_next_val(to, val)
+}
+
+/// The operands of a compare-and-exchange.
+#[tactic(auto, using(crate::proofs::Adds::adds_steps))]
+fn write_cmpxchg(
+    to: &mut Writer,
+    width: Width,
+    ptr: &Named,
+    expected: &Val,
+    val: &Val,
+) -> Result<(), NoMemory>
+    ensures { OnOk result (Adds to.old to.new (forms (op_tokens (CmpXchg width ptr.now expected.now val.now)))) }
+{
+    write_width(to, width)?;
+    write_register(to, ptr)?;
+    write_next_val(to, expected)?;
+    write_next_val(to, val)
+}
+
+/// The operands of a copy of memory.
+#[tactic(auto, using(crate::proofs::Adds::adds_steps))]
+fn write_copy(to: &mut Writer, target: &Named, from: &Named, len: &Val) -> Result<(), NoMemory>
+    ensures { OnOk result (Adds to.old to.new (forms (op_tokens (Copy target.now from.now len.now)))) }
+{
+    write_register(to, target)?;
+    write_next_register(to, from)?;
+    write_next_val(to, len)
+}
+
+/// The tokens of an operation after its first word.
 #[tactic(auto, using(crate::proofs::Adds::adds_steps))]
 fn write_operands(to: &mut Writer, op: &Op) -> Result<(), NoMemory>
     ensures { OnOk result (Adds to.old to.new (forms (op_tokens op.now))) }
 {
     match op {
+        Op::Null => Ok(()),
         Op::Const { width, value } => {
             write_width(to, *width)?;
             to.number(*value)
         }
-        Op::Null => Ok(()),
         Op::Make { size: val, .. } | Op::Input { index: val } => write_val(to, val),
+        Op::PtrToInt { ptr } | Op::Free { ptr } => write_register(to, ptr),
+        Op::Print { width, val } => {
+            write_width(to, *width)?;
+            write_val(to, val)
+        }
         Op::Gep { ptr, add } => {
             write_register(to, ptr)?;
             write_next_val(to, add)
@@ -174,76 +271,37 @@ fn write_operands(to: &mut Writer, op: &Op) -> Result<(), NoMemory>
             write_val(to, val)?;
             write_next_register(to, ptr)
         }
-        Op::Retag { kind, ptr, size } => {
-            to.word(kind_word(*kind).as_bytes())?;
-            write_register(to, ptr)?;
-            to.mark(Mark::Comma)?;
-            to.number(u64::from(*size))
-        }
+        Op::Retag { kind, ptr, size } => write_retag(to, *kind, ptr, *size),
+        Op::Copy {
+            to: target,
+            from,
+            len,
+        } => write_copy(to, target, from, len),
         Op::Binary { width, a, b, .. } => {
             write_width(to, *width)?;
             write_val(to, a)?;
             write_next_val(to, b)
         }
-        Op::Compare { cond, ty, a, b } => {
-            to.word(cond_word(*cond).as_bytes())?;
-            write_type(to, *ty)?;
-            write_val(to, a)?;
-            write_next_val(to, b)
-        }
-        Op::Select { ty, cond, a, b } => {
-            write_type(to, *ty)?;
-            write_val(to, cond)?;
-            write_next_val(to, a)?;
-            write_next_val(to, b)
-        }
+        Op::Compare { cond, ty, a, b } => write_compare(to, *cond, *ty, a, b),
+        Op::Select { ty, cond, a, b } => write_select(to, *ty, cond, a, b),
         Op::Cast {
             from,
             to: width,
             val,
             ..
-        } => {
-            write_width(to, *from)?;
-            write_val(to, val)?;
-            to.word(b"to")?;
-            write_width(to, *width)
-        }
-        Op::PtrToInt { ptr } | Op::Free { ptr } => write_register(to, ptr),
+        } => write_cast(to, *from, val, *width),
         Op::Modify {
             op,
             width,
             ptr,
             val,
-        } => {
-            to.word(modify_word(*op).as_bytes())?;
-            write_width(to, *width)?;
-            write_register(to, ptr)?;
-            write_next_val(to, val)
-        }
+        } => write_modify(to, *op, *width, ptr, val),
         Op::CmpXchg {
             width,
             ptr,
             expected,
             val,
-        } => {
-            write_width(to, *width)?;
-            write_register(to, ptr)?;
-            write_next_val(to, expected)?;
-            write_next_val(to, val)
-        }
-        Op::Copy {
-            to: target,
-            from,
-            len,
-        } => {
-            write_register(to, target)?;
-            write_next_register(to, from)?;
-            write_next_val(to, len)
-        }
-        Op::Print { width, val } => {
-            write_width(to, *width)?;
-            write_val(to, val)
-        }
+        } => write_cmpxchg(to, *width, ptr, expected, val),
         Op::Call {
             result,
             function,
@@ -256,7 +314,7 @@ fn write_operands(to: &mut Writer, op: &Op) -> Result<(), NoMemory>
             write_type(to, *result)?;
             write_call(to, host, args.as_slice())
         }
-        Op::Spawn { function, args } => { write_call(to, function, args.as_slice()) }
+        Op::Spawn { function, args } => write_call(to, function, args.as_slice()),
         Op::Join { result, handle, .. } => {
             write_result(to, *result)?;
             write_register(to, handle)
@@ -283,7 +341,7 @@ fn write_ret(to: &mut Writer, val: &Option<TypedVal>) -> Result<(), NoMemory>
     }
 }
 
-/// The tokens of a terminator behind its first word.
+/// The tokens of a terminator after its first word.
 #[tactic(auto, using(crate::proofs::Adds::adds_ret))]
 fn write_jump(to: &mut Writer, jump: &Jump) -> Result<(), NoMemory>
     ensures { OnOk result (Adds to.old to.new (forms (jump_tokens jump.now))) }
@@ -510,7 +568,7 @@ fn write_first_line(to: &mut Writer, version: u8) -> Result<(), NoMemory>
 /// The canonical text of a program.
 ///
 /// # Errors
-/// Only where memory is wanting.
+/// `NoMemory`: out of memory.
 pub fn print(alloc: Global, program: &Program) -> Result<Vec<u8>, NoMemory>
     ensures { IfOk result (λ text. text.items ≡ canonical program.now) }
 {

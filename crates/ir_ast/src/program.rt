@@ -26,7 +26,7 @@ pub enum Val {
     Num(u64),
 }
 
-/// An operand with the type that stands before it.
+/// An operand with its type, which comes before it.
 #[derive(Drop)]
 pub struct TypedVal {
     pub ty: Ty,

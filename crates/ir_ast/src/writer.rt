@@ -1,59 +1,14 @@
 //! Text that is written token by token.
 ghost use Rattle.std.specs.Prelude.{◌≡◌, [], ◌∷◌, ◌++◌, ◌||◌, codes, OnOk};
 ghost use Rattle.ir_ast.specs.Tokens.Form.{word, local, global, number};
-ghost use Rattle.ir_ast.specs.Texts.{form_text, hugs, opens, space};
-ghost use Rattle.ir_ast.specs.Written.{mark_form, Adds, Begins, AddsText};
+ghost use Rattle.ir_ast.specs.Texts.{space};
+ghost use Rattle.ir_ast.specs.Marks.{mark_form};
+ghost use Rattle.ir_ast.specs.Written.{Adds, Begins, AddsText};
 
+use crate::mark::Mark;
 use bsan_ids::NoMemory;
 use itoa::Buffer;
 use std::alloc::Global;
-
-/// A token of one form.
-#[derive(Clone, Copy)]
-pub enum Mark {
-    OpenRound,
-    CloseRound,
-    OpenBrace,
-    CloseBrace,
-    Comma,
-    Colon,
-    Equals,
-    Arrow,
-}
-
-impl Mark {
-    fn text(self) -> &'static str
-        ensures { result.now ≡ form_text (mark_form self) }
-    {
-        match self {
-            Mark::OpenRound => "(",
-            Mark::CloseRound => ")",
-            Mark::OpenBrace => "{",
-            Mark::CloseBrace => "}",
-            Mark::Comma => ",",
-            Mark::Colon => ":",
-            Mark::Equals => "=",
-            Mark::Arrow => "->",
-        }
-    }
-
-    /// No space stands before it.
-    fn hugs(self) -> bool
-        ensures { result ≡ hugs (mark_form self) }
-    {
-        matches!(
-            self,
-            Mark::Comma | Mark::OpenRound | Mark::CloseRound | Mark::Colon
-        )
-    }
-
-    /// No space stands behind it.
-    fn opens(self) -> bool
-        ensures { result ≡ opens (mark_form self) }
-    {
-        matches!(self, Mark::OpenRound)
-    }
-}
 
 /// A text that grows by tokens and lines.
 #[derive(Drop)]
@@ -98,10 +53,10 @@ impl Writer {
     }
 
     /// The space that is due, and then this.
-    fn put(&mut self, hugs: bool, text: &[u8]) -> Result<(), NoMemory>
-        ensures text { OnOk result (self.new.text.items ≡ self.old.text.items ++ (space (self.old.tight || hugs) ++ text.now)) }
+    fn put(&mut self, no_space_before: bool, text: &[u8]) -> Result<(), NoMemory>
+        ensures text { OnOk result (self.new.text.items ≡ self.old.text.items ++ (space (self.old.tight || no_space_before) ++ text.now)) }
     {
-        if !(self.tight || hugs) {
+        if !(self.tight || no_space_before) {
             self.text.extend_from_slice(b" ")?;
         }
         self.text.extend_from_slice(text)?;
@@ -146,8 +101,8 @@ impl Writer {
     pub fn mark(&mut self, mark: Mark) -> Result<(), NoMemory>
         ensures { OnOk result (Adds self.old self.new (mark_form mark ∷ [])) }
     {
-        self.put(mark.hugs(), mark.text().as_bytes())?;
-        self.tight = mark.opens();
+        self.put(mark.no_space_before(), mark.text().as_bytes())?;
+        self.tight = mark.no_space_after();
         Ok(())
     }
 }

@@ -4,7 +4,7 @@ use ir_reader::{ReadFault, read};
 use std::alloc::Global;
 use std::test::Fail;
 
-/// So many lines between two others.
+/// `count` times a line between two texts.
 fn text_of(
     alloc: Global,
     front: &str,
@@ -25,7 +25,8 @@ const OPEN: &str = "bir 1\nfunc @f() -> void {\nb:\n";
 
 const CLOSE: &str = "ret void\n}\n";
 
-/// What stands before the lines, a line, what stands behind them, the most lines, and the place behind so many.
+/// The text before the lines, a line, the text after them, the most lines, and the place of the first token past the
+/// limit, or of the first byte where the text is too long.
 const LIMITS: [(&str, &str, &str, usize, u32); 4] = [
     // 256 functions, of 32 bytes each
     (

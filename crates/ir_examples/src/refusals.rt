@@ -24,7 +24,7 @@ const REFUSED: [(&str, ReadFault); 37] = [
     ("bir 2", ReadFault::Unexpected { at: 5 }),
     ("bir 3", ReadFault::Unexpected { at: 4 }),
     ("bir 18446744073709551617", ReadFault::Unexpected { at: 4 }),
-    // bad bytes, wherever they stand
+    // bad bytes, wherever they are
     ("bir 1\n$", ReadFault::BadByte { at: 6 }),
     ("bir 2 %", ReadFault::BadByte { at: 6 }),
     // a kind that the version does not have

@@ -242,11 +242,17 @@ const BROKEN: [(&str, Rule, u32); 40] = [
 ];
 
 /// Programs in which no rule is broken.
-const ACCEPTED: [&str; 2] = [
-    // a goal to a label that stands once, arguments and loop
+const ACCEPTED: [&str; 5] = [
+    // a goal to a label that is defined once, arguments and loop
     "bir 1 func @main() -> i64 { e: br l(i64 0) l(i64 %i): %j = add i64 %i, 1 %c = icmp ult i64 %j, 3 condbr %c, l(i64 %j), d d: ret i64 %j }",
     // an unreachable block uses what no path defines
     "bir 1 func @main() -> i64 { e: ret i64 0 u: print i64 %x %x = const i64 1 br u }",
+    // the greatest allocation of version 2
+    "bir 2 func @main() -> i64 { e: %x = alloca 1048576 %q = gep %x, 1048568 store i64 3, %q %v = load i64, %q print i64 %v ret i64 0 }",
+    // two pointers to shared cells
+    "bir 2 func @main() -> i64 { e: %x = alloca 8 %y = retag shrcell %x, 8 %z = retag shrcell %x, 8 store i64 1, %y %v = load i64, %z store i64 2, %x store i64 3, %z ret i64 0 }",
+    // a parameter and a result that are retagged as pointers to shared cells
+    "bir 2 func @f(ptr shrcell(8) %a) -> ptr shrcell(8) { b: ret ptr %a } func @main() -> i64 { e: %x = alloca 8 %y = call ptr @f(ptr %x) %v = load i64, %y ret i64 %v }",
 ];
 
 /// A table with one host function, of two arguments.

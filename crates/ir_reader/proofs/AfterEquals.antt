@@ -23,7 +23,7 @@ use Rattle.ir_ast.specs.declared.program.Jump.TheVariants.{Br, CondBr, Ret, Unre
 use Rattle.ir_ast.specs.declared.program.Block.{Block}
 use Rattle.ir_ast.specs.declared.program.Function.{Function}
 use Rattle.ir_ast.specs.declared.program.Program.{Program}
-use Rattle.ir_reader.specs.declared.marks.Mark.TheVariants.{Equals}
+use Rattle.ir_ast.specs.declared.mark.Mark.TheVariants.{Equals}
 use Rattle.ir_reader.specs.Wants.{is_mark}
 use Rattle.ir_reader.specs.Told.{ends_equal}
 

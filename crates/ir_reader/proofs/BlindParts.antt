@@ -32,8 +32,8 @@ use Rattle.ir_ast.specs.declared.program.Jump.TheVariants.{Br, Unreachable}
 use Rattle.ir_ast.specs.declared.program.Term.{Term}
 use Rattle.ir_ast.specs.declared.program.Block.{Block}
 use Rattle.ir_ast.specs.declared.program.Function.{Function}
-use Rattle.ir_reader.specs.declared.marks.Mark.{Mark}
-use Rattle.ir_reader.specs.declared.marks.Mark.TheVariants.{OpenRound, CloseRound, OpenBrace, CloseBrace, Comma, Colon, Equals, Arrow}
+use Rattle.ir_ast.specs.declared.mark.Mark.{Mark}
+use Rattle.ir_ast.specs.declared.mark.Mark.TheVariants.{OpenRound, CloseRound, OpenBrace, CloseBrace, Comma, Colon, Equals, Arrow}
 use Rattle.ir_reader.specs.declared.keywords.Keyword.{Keyword}
 use Rattle.ir_reader.specs.declared.keywords.Keyword.TheVariants as key
 use Rattle.ir_reader.specs.declared.keywords.JumpWord.{JumpWord}

@@ -14,7 +14,8 @@ use Rattle.phrase.proofs.Cut.{canonical_is_cut}
 use Rattle.ir_reader.specs.View.{lexes}
 use Rattle.ir_reader.specs.Blocks.{program_at}
 use Rattle.ir_reader.specs.Laws.{with_end}
-use Rattle.ir_reader.specs.Readings.{most_bytes, IsProgramOf}
+use Rattle.ir_text.specs.Bytes.{most_bytes}
+use Rattle.ir_reader.specs.Readings.{IsProgramOf}
 use Rattle.ir_reader.proofs.Blind.{unplaced_all, whole_without, blind_all}
 use Rattle.ir_reader.proofs.BlindParts.{versioned_without, blind_program}
 use Rattle.ir_reader.proofs.BlockParts.{Versioned}

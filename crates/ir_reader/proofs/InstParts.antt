@@ -26,14 +26,15 @@ use Rattle.ir_ast.specs.declared.program.Inst.{Inst}
 use Rattle.ir_ast.specs.declared.program.Jump.{Jump}
 use Rattle.ir_ast.specs.declared.program.Jump.TheVariants.{Br, CondBr, Ret, Unreachable}
 use Rattle.ir_ast.specs.declared.program.Term.{Term}
-use Rattle.ir_reader.specs.declared.marks.Mark.TheVariants.{Equals}
+use Rattle.ir_ast.specs.declared.mark.Mark.TheVariants.{Equals}
 use Rattle.ir_reader.specs.declared.keywords.Keyword.{Keyword}
 use Rattle.ir_reader.specs.declared.keywords.Keyword.TheVariants as key
 use Rattle.ir_reader.specs.declared.keywords.JumpWord.{JumpWord}
 use Rattle.ir_reader.specs.declared.keywords.JumpWord.TheVariants as jump
 use Rattle.ir_reader.specs.View.{begins}
 use Rattle.ir_reader.specs.Tables.{lookup, results}
-use Rattle.ir_reader.specs.Keys.{plains, jumps, key_word, key_of, jump_key_word, jump_key_of}
+use Rattle.ir_reader.specs.Keys.{plains, jumps, key_word, jump_key_word}
+use Rattle.ir_reader.proofs.KeysOf.{key_of, jump_key_of}
 use Rattle.ir_reader.specs.Wants.{begins_if, local_at, word_among, with_place, want_placed}
 use Rattle.ir_reader.specs.Parts.{goal_at}
 use Rattle.ir_reader.specs.Ops.{value_at, tail_at, defined_at}

@@ -2,7 +2,7 @@
 use Rattle.std.proofs.Common.{◌≡◌, ℕ, zero, suc, ◌+◌, Bool, List, [], ◌∷◌, length, get_or, arith}
 use Rattle.ir_text.specs.declared.token.Token.{Token}
 use Rattle.phrase.specs.Lexes.{lex, token_bytes}
-use Rattle.ir_reader.specs.declared.marks.Mark.TheVariants.{Equals}
+use Rattle.ir_ast.specs.declared.mark.Mark.TheVariants.{Equals}
 use Rattle.ir_reader.specs.View.{lexes}
 use Rattle.ir_reader.specs.Wants.{is_mark, kind_is}
 use Rattle.ir_reader.specs.Told.{ends_equal}

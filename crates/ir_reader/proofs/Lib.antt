@@ -1,4 +1,5 @@
 pub mod Joined
+pub mod KeysOf
 pub mod MarkForms
 pub mod Numerals
 pub mod Singles

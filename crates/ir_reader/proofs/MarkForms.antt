@@ -3,8 +3,8 @@ use Rattle.std.proofs.Common.{◌≡◌, ℕ, List, refl}
 use Rattle.ir_text.specs.declared.token.TokenKind.{TokenKind}
 use Rattle.ir_text.specs.declared.token.TokenKind.TheVariants as kind
 use Rattle.phrase.specs.Lexes.{form_of}
-use Rattle.ir_reader.specs.declared.marks.Mark.{Mark}
-use Rattle.ir_reader.specs.declared.marks.Mark.TheVariants.{OpenRound, CloseRound, OpenBrace, CloseBrace, Comma, Colon, Equals, Arrow}
+use Rattle.ir_ast.specs.declared.mark.Mark.{Mark}
+use Rattle.ir_ast.specs.declared.mark.Mark.TheVariants.{OpenRound, CloseRound, OpenBrace, CloseBrace, Comma, Colon, Equals, Arrow}
 use Rattle.ir_reader.specs.Wants.{is_mark, kind_is}
 
 pub mark_by_kind : (mark : Mark) (k : TokenKind) (bytes : List ℕ) → is_mark mark (form_of k bytes) ≡ kind_is mark k

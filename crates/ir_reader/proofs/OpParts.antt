@@ -32,7 +32,8 @@ use Rattle.ir_ast.specs.declared.program.Op.TheVariants as op
 use Rattle.ir_reader.specs.declared.keywords.Keyword.{Keyword}
 use Rattle.ir_reader.specs.declared.keywords.Keyword.TheVariants as key
 use Rattle.ir_reader.specs.Tables.{lookup, widths, types, kinds, conds, modifiers}
-use Rattle.ir_reader.specs.Keys.{definers, key_word, key_of}
+use Rattle.ir_reader.specs.Keys.{definers, key_word}
+use Rattle.ir_reader.proofs.KeysOf.{key_of}
 use Rattle.ir_reader.specs.Wants.{want_if, is_word, want_global, want_among, want_placed, want_amount}
 use Rattle.ir_reader.specs.Parts.{second, args_at}
 use Rattle.ir_reader.specs.Ops.{given, register_at, word_at, type_at, value_at, next_register_at, next_value_at, two_at, next_two_at, callee_at, some_type, some_placed, result_at, placed_result_at, const_of, const_at, make_at, gep_of, gep_at, load_of, load_at, store_of, store_at, retag_of, next_size_at, retag_at, binary_of, binary_at, compare_of, compare_at, select_of, select_at, cast_of, to_at, cast_at, ptr_to_int_at, input_at, modify_of, modify_at, cmp_xchg_of, cmp_xchg_at, copy_of, copy_at, free_at, print_of, print_at, call_of, call_at, host_of, host_at, spawn_of, spawn_at, join_of, join_at, tail_at, defined_at}

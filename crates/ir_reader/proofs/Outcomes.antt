@@ -14,7 +14,8 @@ use Rattle.ir_ast.specs.declared.program.Program.{Program}
 use Rattle.ir_ast.proofs.Limits.{keeps_limits}
 use Rattle.ir_reader.specs.View.{lexes}
 use Rattle.ir_reader.specs.Blocks.{program_at}
-use Rattle.ir_reader.specs.Readings.{most_bytes, IsProgramOf, Refuses, AnswersUnlessMemory, IsRefusal}
+use Rattle.ir_text.specs.Bytes.{most_bytes}
+use Rattle.ir_reader.specs.Readings.{IsProgramOf, Refuses, AnswersUnlessMemory, IsRefusal}
 use Rattle.ir_reader.specs.Told.{front_of, fault_at}
 use Rattle.ir_reader.specs.declared.fault.ReadFault.{ReadFault}
 use Rattle.ir_reader.specs.declared.fault.ReadFault.TheVariants.{TooLarge, BadByte, IntToPtr, Unexpected, NumberTooLarge, NoMemory}

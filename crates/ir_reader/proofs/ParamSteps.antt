@@ -6,7 +6,7 @@ use Rattle.ir_ast.specs.declared.program.Param.{Param}
 use Rattle.ir_reader.specs.View.{lexes, Fails, begins, with_front}
 use Rattle.ir_reader.specs.declared.stop.Stop.{Stop}
 use Rattle.ir_reader.specs.declared.stop.Stop.TheVariants.{Memory, At}
-use Rattle.ir_reader.specs.declared.marks.Mark.TheVariants.{OpenRound}
+use Rattle.ir_ast.specs.declared.mark.Mark.TheVariants.{OpenRound}
 use Rattle.ir_reader.specs.Wants.{begins_if, is_mark, is_any_word}
 use Rattle.ir_reader.specs.Blocks.{some_attr_at, optional_attr_at, param_at, more_params_at, params_at, some_params_at, round_params_at, block_params_at}
 use Rattle.ir_reader.proofs.ValueSteps.{by_more, by_listed}

@@ -5,9 +5,9 @@ use Rattle.ir_ast.specs.Tokens.Form.{open_round, close_round, comma}
 use Rattle.phrase.specs.Reading.{Reader, both, mapped}
 use Rattle.phrase.proofs.Phrase.{Phrase, ok_both, spell_both, both_phrase}
 use Rattle.phrase.proofs.Repeat.{mapped_phrase}
-use Rattle.ir_reader.specs.declared.marks.Mark.{Mark}
-use Rattle.ir_reader.specs.declared.marks.Mark.TheVariants.{OpenRound, CloseRound, Comma}
-use Rattle.ir_reader.specs.Wants.{mark_form}
+use Rattle.ir_ast.specs.declared.mark.Mark.{Mark}
+use Rattle.ir_ast.specs.declared.mark.Mark.TheVariants.{OpenRound, CloseRound, Comma}
+use Rattle.ir_ast.specs.Marks.{mark_form}
 use Rattle.ir_reader.specs.Parts.{second, first_of, mark_at, after_comma, in_round}
 use Rattle.ir_reader.proofs.Singles.{Any, mark_phrase}
 

@@ -30,10 +30,11 @@ use Rattle.phrase.specs.Reading.{one}
 use Rattle.phrase.specs.declared.Cause.{Cause}
 use Rattle.phrase.specs.declared.Cause.TheVariants.{Unexpected, NumberTooLarge}
 use Rattle.phrase.proofs.Phrase.{Sample, Phrase, one_phrase, verdict}
-use Rattle.ir_reader.specs.declared.marks.Mark.{Mark}
-use Rattle.ir_reader.specs.declared.marks.Mark.TheVariants.{OpenRound, CloseRound, OpenBrace, CloseBrace, Comma, Colon, Equals, Arrow}
-use Rattle.ir_reader.specs.Tables.{lookup, widths, types, results, newer_kinds, kinds, conds, modifiers}
-use Rattle.ir_reader.specs.Wants.{want_if, mark_form, is_mark, is_word, local_at, want_local, global_at, want_global, label_at, want_label, or_unexpected, word_among, want_among, with_place, want_placed, amount_at, want_amount, val_at, want_val}
+use Rattle.ir_ast.specs.declared.mark.Mark.{Mark}
+use Rattle.ir_ast.specs.declared.mark.Mark.TheVariants.{OpenRound, CloseRound, OpenBrace, CloseBrace, Comma, Colon, Equals, Arrow}
+use Rattle.ir_reader.specs.Tables.{lookup, worded, widths, types, results, newer_kinds, kinds, conds, modifiers}
+use Rattle.ir_ast.specs.Marks.{mark_form}
+use Rattle.ir_reader.specs.Wants.{want_if, is_mark, is_word, local_at, want_local, global_at, want_global, label_at, want_label, or_unexpected, word_among, want_among, with_place, want_placed, amount_at, want_amount, val_at, want_val}
 use Rattle.ir_reader.specs.Parts.{mark_at}
 
 abbrev pub Any : {A : Type 0} → A → Type 0
@@ -216,7 +217,7 @@ placed_result_phrase = placed_phrase result_word results None result_rows result
 kind_rows : (version : ℕ) → AreRows kind_word (HasKind version) (kinds version)
 kind_rows version = ((refl, tt), ((refl, tt), ((refl, tt), ((refl, tt), newer (nat_le 2 version) refl))))
   where
-    newer : (b : Bool) → nat_le 2 version ≡ b → AreRows kind_word (HasKind version) (newer_kinds b)
+    newer : (b : Bool) → nat_le 2 version ≡ b → AreRows kind_word (HasKind version) (worded kind_word (newer_kinds b))
     newer true e = ((refl, leb-true 2 version e), tt)
     newer false e = tt
 

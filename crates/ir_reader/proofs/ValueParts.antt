@@ -10,7 +10,7 @@ use Rattle.phrase.specs.Reading.{one, many_from}
 use Rattle.phrase.proofs.Phrase.{Phrase, ok_both, spell_both}
 use Rattle.phrase.proofs.Repeat.{Ends, ok_maybe, spell_maybe, Begins, mapped_phrase, maybe_phrase}
 use Rattle.phrase.proofs.ManyFrom.{ok_from, spell_from, many_from_phrase}
-use Rattle.ir_reader.specs.declared.marks.Mark.TheVariants.{OpenRound, Comma}
+use Rattle.ir_ast.specs.declared.mark.Mark.TheVariants.{OpenRound, Comma}
 use Rattle.ir_reader.specs.Tables.{types}
 use Rattle.ir_reader.specs.Wants.{begins_if, is_mark, is_any_word, want_label, want_among, want_val}
 use Rattle.ir_reader.specs.Parts.{cons_of, listed, typed_of, typed_at, next_typed_at, same_state, more_at, values_at, some_values_at, round_at, args_at, goal_args_at, goal_of, goal_at}

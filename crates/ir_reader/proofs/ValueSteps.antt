@@ -7,7 +7,7 @@ use Rattle.ir_ast.specs.declared.program.TypedVal.{TypedVal}
 use Rattle.ir_reader.specs.View.{lexes, Fails, begins, with_front}
 use Rattle.ir_reader.specs.declared.stop.Stop.{Stop}
 use Rattle.ir_reader.specs.declared.stop.Stop.TheVariants.{Memory, At}
-use Rattle.ir_reader.specs.declared.marks.Mark.TheVariants.{OpenRound}
+use Rattle.ir_ast.specs.declared.mark.Mark.TheVariants.{OpenRound}
 use Rattle.ir_reader.specs.Wants.{begins_if, is_mark, is_any_word}
 use Rattle.ir_reader.specs.Parts.{listed, typed_at, more_at, values_at, some_values_at, round_at, goal_args_at}
 

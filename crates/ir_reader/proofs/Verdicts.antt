@@ -18,7 +18,8 @@ use Rattle.ir_reader.specs.View.{lexes}
 use Rattle.ir_reader.specs.Wants.{is_word}
 use Rattle.ir_reader.specs.Blocks.{program_at}
 use Rattle.ir_reader.specs.Laws.{with_end}
-use Rattle.ir_reader.specs.Readings.{most_bytes, IsProgramOf, place_of, StopsAt, IsIntToPtr, Refuses}
+use Rattle.ir_text.specs.Bytes.{most_bytes}
+use Rattle.ir_reader.specs.Readings.{IsProgramOf, place_of, StopsAt, IsIntToPtr, Refuses}
 use Rattle.ir_reader.specs.Told.{ends_equal, next_int_to_ptr, front_of, fault_at}
 use Rattle.ir_reader.specs.declared.fault.ReadFault.{ReadFault}
 use Rattle.ir_reader.specs.declared.fault.ReadFault.TheVariants.{TooLarge, BadByte, IntToPtr, Unexpected, NumberTooLarge, NoMemory}

@@ -19,7 +19,7 @@ use Rattle.ir_ast.specs.declared.program.Inst.{Inst}
 use Rattle.ir_ast.specs.declared.program.Term.{Term}
 use Rattle.ir_ast.specs.declared.program.Block.{Block}
 use Rattle.ir_ast.specs.declared.program.Function.{Function}
-use Rattle.ir_reader.specs.declared.marks.Mark.TheVariants.{OpenRound, OpenBrace, CloseBrace, Comma, Colon, Arrow}
+use Rattle.ir_ast.specs.declared.mark.Mark.TheVariants.{OpenRound, OpenBrace, CloseBrace, Comma, Colon, Arrow}
 use Rattle.ir_reader.specs.Tables.{lookup, results, kinds}
 use Rattle.ir_reader.specs.Keys.{plains}
 use Rattle.ir_reader.specs.Wants.{want_if, begins_if, is_mark, is_any_word, is_word, want_local, want_global, want_label, want_among, want_amount}

@@ -18,7 +18,7 @@ use Rattle.ir_ast.specs.declared.program.Inst.{Inst}
 use Rattle.ir_ast.specs.declared.program.Jump.{Jump}
 use Rattle.ir_ast.specs.declared.program.Jump.TheVariants.{Br, CondBr, Ret, Unreachable}
 use Rattle.ir_ast.specs.declared.program.Term.{Term}
-use Rattle.ir_reader.specs.declared.marks.Mark.TheVariants.{Equals}
+use Rattle.ir_ast.specs.declared.mark.Mark.TheVariants.{Equals}
 use Rattle.ir_reader.specs.declared.keywords.Keyword.{Keyword}
 use Rattle.ir_reader.specs.declared.keywords.JumpWord.{JumpWord}
 use Rattle.ir_reader.specs.declared.keywords.JumpWord.TheVariants as jump

@@ -6,8 +6,8 @@ use Rattle.ir_ast.specs.declared.program.Named.{Named}
 use Rattle.ir_ast.specs.declared.program.Goal.{Goal}
 use Rattle.ir_ast.specs.declared.program.TypedVal.{TypedVal}
 use Rattle.ir_ast.specs.declared.program.Val.{Val}
-use Rattle.ir_reader.specs.declared.marks.Mark.{Mark}
-use Rattle.ir_reader.specs.declared.marks.Mark.TheVariants.{OpenRound, CloseRound, Comma}
+use Rattle.ir_ast.specs.declared.mark.Mark.{Mark}
+use Rattle.ir_ast.specs.declared.mark.Mark.TheVariants.{OpenRound, CloseRound, Comma}
 use Rattle.ir_reader.specs.Tables.{types}
 use Rattle.ir_reader.specs.Wants.{want_if, begins_if, is_mark, is_any_word, want_label, want_among, want_val}
 

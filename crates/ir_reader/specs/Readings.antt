@@ -1,6 +1,7 @@
 -- What program a text is, and how a text that is none is refused.
 use Rattle.std.specs.Prelude.{◌≡◌, ◌⊎◌, ℕ, ◌<◌, ◌≤◌, true, List, [], ◌∷◌, ◌++◌, length, codes, Result, Err}
 use Rattle.ir_text.specs.declared.token.Token.{Token}
+use Rattle.ir_text.specs.Bytes.{most_bytes}
 use Rattle.ir_text.specs.Lexed.{Lexed}
 use Rattle.ir_text.specs.Lexed.Outcome.{good, bad}
 use Rattle.ir_ast.specs.Tokens.{Lex, Asked, Spelled}
@@ -16,10 +17,6 @@ use Rattle.phrase.specs.declared.Cause.TheVariants as cause
 use Rattle.ir_reader.specs.View.{lexes}
 use Rattle.ir_reader.specs.declared.fault.ReadFault.{ReadFault}
 use Rattle.ir_reader.specs.declared.fault.ReadFault.TheVariants.{TooLarge, BadByte, IntToPtr, Unexpected, NumberTooLarge, NoMemory}
-
--- the most bytes of a text
-abbrev pub most_bytes : ℕ
-most_bytes = 1048576
 
 -- The text is this program's: it is cut into the tokens that the program is written with, each at its place, and
 -- nothing is past its limit.

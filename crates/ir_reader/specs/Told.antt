@@ -3,7 +3,7 @@ use Rattle.std.specs.Prelude.{◌≡◌, ℕ, ◌-◌, ◌&&◌, Bool, false, Li
 use Rattle.ir_ast.specs.Tokens.{Lex}
 use Rattle.phrase.specs.declared.Cause.{Cause}
 use Rattle.phrase.specs.declared.Cause.TheVariants as cause
-use Rattle.ir_reader.specs.declared.marks.Mark.TheVariants.{Equals}
+use Rattle.ir_ast.specs.declared.mark.Mark.TheVariants.{Equals}
 use Rattle.ir_reader.specs.declared.stop.Stop.{Stop}
 use Rattle.ir_reader.specs.declared.stop.Stop.TheVariants.{Memory, At}
 use Rattle.ir_reader.specs.declared.fault.ReadFault.{ReadFault}

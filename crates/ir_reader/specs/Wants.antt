@@ -13,8 +13,8 @@ use Rattle.ir_ast.specs.declared.types.Ty.{Ty}
 use Rattle.ir_ast.specs.declared.types.Ty.TheVariants.{Int}
 use Rattle.phrase.specs.declared.Cause.{Cause}
 use Rattle.phrase.specs.declared.Cause.TheVariants.{Unexpected, NumberTooLarge}
-use Rattle.ir_reader.specs.declared.marks.Mark.{Mark}
-use Rattle.ir_reader.specs.declared.marks.Mark.TheVariants.{OpenRound, CloseRound, OpenBrace, CloseBrace, Comma, Colon, Equals, Arrow}
+use Rattle.ir_ast.specs.declared.mark.Mark.{Mark}
+use Rattle.ir_ast.specs.declared.mark.Mark.TheVariants.{OpenRound, CloseRound, OpenBrace, CloseBrace, Comma, Colon, Equals, Arrow}
 use Rattle.ir_reader.specs.Tables.{lookup}
 
 abbrev pub want_if : (Form → Bool) → Lex → Result (Unit {0}) Cause
@@ -24,16 +24,6 @@ abbrev pub begins_if : (Form → Bool) → Lex → Bool
 begins_if test l = test l.form
 
 -- ---- marks and fixed words
-
-abbrev pub mark_form : Mark → Form
-mark_form OpenRound = open_round
-mark_form CloseRound = close_round
-mark_form OpenBrace = open_brace
-mark_form CloseBrace = close_brace
-mark_form Comma = comma
-mark_form Colon = colon
-mark_form Equals = equals
-mark_form Arrow = arrow
 
 abbrev pub is_mark : Mark → Form → Bool
 is_mark OpenRound open_round = true

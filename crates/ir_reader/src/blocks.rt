@@ -2,28 +2,28 @@
 ghost use Rattle.std.specs.Prelude.{◌≡◌, ◌+◌, ◌<◌, ◌^◌, suc, true, length, if◌then◌else◌, IfOk};
 ghost use Rattle.std.specs.List.{sum_by};
 ghost use Rattle.ir_ast.specs.Lines.{most_instructions, most_registers, block_instructions};
-ghost use Rattle.ir_reader.specs.View.{lexes, Gives, with_front};
+ghost use Rattle.ir_reader.specs.View.{IsReadCounted, onto};
 ghost use Rattle.ir_reader.specs.Behind.{counts, after_insts};
 ghost use Rattle.ir_reader.specs.Blocks.{insts_at, block_at, after_block, more_blocks_at, blocks_at, closed_blocks_at};
 
 use crate::insts::{begins_inst, inst, term};
 use crate::leaves::{begins_any_word, label};
-use crate::marks::{Mark, take_mark};
+use crate::marks::take_mark;
 use crate::params::head;
 use crate::stop::{Read, Stop};
 use bsan_ids::ListOf;
-use ir_ast::{Block, Inst};
+use ir_ast::{Block, Inst, Mark};
 use ir_text::Token;
 use std::alloc::Global;
 
-/// How many instructions of the program and registers of the function stand before a place.
+/// How many instructions of the program and registers of the function come before a place.
 #[derive(Clone, Copy)]
 pub struct Before {
     pub instructions: u32,
     pub registers: u32,
 }
 
-/// What stands before the place behind so many parameters.
+/// The counts after this many parameters.
 fn after_params(before: Before, params: usize) -> Before
     requires { before.registers + params < 2 ^ 32 }
     ensures { counts result ≡ (before.instructions, before.registers + params) }
@@ -34,7 +34,7 @@ fn after_params(before: Before, params: usize) -> Before
     }
 }
 
-/// What stands before the place behind an instruction, which may define a register.
+/// The counts after an instruction, which may define a register.
 fn after_inst(before: Before, defines: bool) -> Before
     requires instructions { before.instructions < most_instructions }
     requires registers { defines ≡ true → before.registers < most_registers }
@@ -50,7 +50,7 @@ fn after_inst(before: Before, defines: bool) -> Before
     }
 }
 
-/// The instructions that are next, and what stands before the place behind them.
+/// The instructions that are next, and the counts after them.
 fn insts<'a>(
     alloc: Global,
     version: u8,
@@ -58,7 +58,7 @@ fn insts<'a>(
     text: &[u8],
     tokens: &'a [Token],
 ) -> Read<'a, (ListOf<Inst>, Before)>
-    ensures read { Gives text.now (λ x. (x.0.0, lexes text.now x.1.now)) result (insts_at version (counts before) (lexes text.now tokens.now)) }
+    ensures read { IsReadCounted (insts_at version (counts before)) text.now tokens.now result }
     ensures behind { IfOk result (λ x. counts x.0.1 ≡ after_insts (counts before) x.0.0) }
 {
     let mut insts = ListOf::new(alloc);
@@ -80,7 +80,7 @@ fn insts<'a>(
     Ok(((insts, behind), rest))
 }
 
-/// A block, and what stands before the place behind it.
+/// A block, and the counts after it.
 #[tactic(auto, unfolding(crate::specs::Blocks::block_at))]
 fn block<'a>(
     alloc: Global,
@@ -89,7 +89,7 @@ fn block<'a>(
     text: &[u8],
     tokens: &'a [Token],
 ) -> Read<'a, (Block, Before)>
-    ensures read { Gives text.now (λ x. (x.0.0, lexes text.now x.1.now)) result (block_at version (counts before) (lexes text.now tokens.now)) }
+    ensures read { IsReadCounted (block_at version (counts before)) text.now tokens.now result }
     ensures behind { IfOk result (λ x. counts x.0.1 ≡ after_block (counts before) x.0.0) }
 {
     let (label, rest) = label(alloc, text, tokens)?;
@@ -112,7 +112,7 @@ fn block<'a>(
     ))
 }
 
-/// Appends the blocks that follow, and tells how many instructions stand before the place behind them.
+/// Appends the blocks that follow. The count is that of the program's instructions up to the last of them.
 fn more_blocks<'a>(
     alloc: Global,
     version: u8,
@@ -121,13 +121,13 @@ fn more_blocks<'a>(
     text: &[u8],
     tokens: &'a [Token],
 ) -> Read<'a, (ListOf<Block>, u32)>
-    ensures read { Gives text.now (λ x. (x.0.0, lexes text.now x.1.now)) result (with_front front (more_blocks_at version (counts before) (lexes text.now tokens.now))) }
+    ensures read { IsReadCounted (onto front (more_blocks_at version (counts before))) text.now tokens.now result }
     ensures behind { IfOk result (λ x. x.0.1 + sum_by block_instructions front ≡ before.instructions + sum_by block_instructions x.0.0) }
 {
     let mut found = front;
     let mut behind = before;
     let mut rest = tokens;
-    while begins_any_word(text, rest) {
+    while begins_any_word(rest) {
         let ((next, last), after) = block(alloc, version, behind, text, rest)?;
         found.push(next)?;
         behind = last;
@@ -136,7 +136,7 @@ fn more_blocks<'a>(
     Ok(((found, behind.instructions), rest))
 }
 
-/// The blocks of a function, and how many instructions stand before the place behind them.
+/// The blocks of a function, and the number of the program's instructions up to the last of them.
 fn blocks<'a>(
     alloc: Global,
     version: u8,
@@ -144,7 +144,7 @@ fn blocks<'a>(
     text: &[u8],
     tokens: &'a [Token],
 ) -> Read<'a, (ListOf<Block>, u32)>
-    ensures read { Gives text.now (λ x. (x.0.0, lexes text.now x.1.now)) result (blocks_at version (counts before) (lexes text.now tokens.now)) }
+    ensures read { IsReadCounted (blocks_at version (counts before)) text.now tokens.now result }
     ensures behind { IfOk result (λ x. x.0.1 ≡ before.instructions + sum_by block_instructions x.0.0) }
 {
     let ((first, behind), rest) = block(alloc, version, before, text, tokens)?;
@@ -153,7 +153,7 @@ fn blocks<'a>(
     more_blocks(alloc, version, behind, front, text, rest)
 }
 
-/// The blocks of a function and the `}` behind them, and how many instructions then stand before.
+/// The blocks of a function and the `}` after them, and the number of the program's instructions up to there.
 #[tactic(auto, unfolding(crate::specs::Blocks::closed_blocks_at))]
 pub fn closed_blocks<'a>(
     alloc: Global,
@@ -162,10 +162,10 @@ pub fn closed_blocks<'a>(
     text: &[u8],
     tokens: &'a [Token],
 ) -> Read<'a, (ListOf<Block>, u32)>
-    ensures read { Gives text.now (λ x. (x.0.0, lexes text.now x.1.now)) result (closed_blocks_at version (counts before) (lexes text.now tokens.now)) }
+    ensures read { IsReadCounted (closed_blocks_at version (counts before)) text.now tokens.now result }
     ensures behind { IfOk result (λ x. x.0.1 ≡ before.instructions + sum_by block_instructions x.0.0) }
 {
     let (blocks, rest) = blocks(alloc, version, before, text, tokens)?;
-    let rest = take_mark(Mark::CloseBrace, text, rest)?;
+    let rest = take_mark(Mark::CloseBrace, rest)?;
     Ok((blocks, rest))
 }

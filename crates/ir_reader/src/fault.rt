@@ -7,7 +7,7 @@ use std::fmt;
 /// Why a text is not read as a program, and where: the place of a byte, or of a token's first byte, or the text's
 /// length.
 ///
-/// A text of too many bytes is refused first, and then a bad byte, wherever it stands. Else the tokens are read from
+/// A text of too many bytes is refused first, and then a bad byte, wherever it is. Else the tokens are read from
 /// left to right, and the refusal is that of the least place.
 #[derive(Clone, Copy, Debug, PartialEq, Eq)]
 pub enum ReadFault {
@@ -16,13 +16,13 @@ pub enum ReadFault {
     TooLarge { at: u32 },
     /// The first byte outside a comment that neither is a blank nor begins a token.
     BadByte { at: u32 },
-    /// The word `inttoptr` where an operation is wanted, behind a register and `=`.
+    /// The word `inttoptr` where an operation is expected, after a register and `=`.
     IntToPtr { at: u32 },
     /// The first token with which the tokens so far begin no program, or the text's end, where it comes too early.
     Unexpected { at: u32 },
     /// A number above the greatest of its place.
     NumberTooLarge { at: u32 },
-    /// Memory is wanting.
+    /// Out of memory.
     NoMemory,
 }
 

@@ -1,30 +1,28 @@
 //! Instructions and terminators.
-ghost use Rattle.std.specs.Prelude.{◌≡◌};
+ghost use Rattle.std.specs.Prelude.{◌≡◌, ℕ, List};
 ghost use Rattle.phrase.specs.Reading.{one};
-ghost use Rattle.ir_reader.specs.View.{lexes, Gives, begins};
+ghost use Rattle.ir_reader.specs.View.{lexes, IsRead, begins};
 ghost use Rattle.ir_reader.specs.Wants.{begins_if};
 ghost use Rattle.ir_reader.specs.Blocks.{is_inst};
 ghost use Rattle.ir_reader.specs.Insts.{is_local, want_defined, want_plain, want_jump, dest_at, plain_at, inst_at, defining_at, alone_at, br_at, next_goal_at, cond_br_at, returned_at, ret_at, jump_tail_at, term_at};
 
 use crate::keywords::{JumpWord, Keyword, jump_of, plain_of};
-use crate::leaves::{bytes_of, name_of, placed_result, val};
-use crate::marks::{Mark, take_mark};
+use crate::leaves::{bytes_of, name_of, placed, val};
+use crate::marks::take_mark;
 use crate::operations::{defined, tail};
 use crate::stop::{Read, Stop};
 use crate::values::goal;
 use bsan_ids::Name;
-use ir_ast::{Goal, Inst, Jump, Named, Op, Term, Ty, TypedVal, Val, Width};
+use ir_ast::{
+    Goal, Inst, Jump, MOST_INSTRUCTIONS, MOST_REGISTERS, Mark, Named, Op, Term, Ty, TypedVal, Val,
+    Width,
+};
 use ir_text::{Token, TokenKind};
 use phrase::Cause;
 use std::alloc::Global;
 
-/// The most instructions of a program and registers of a function.
-const MOST_INSTRUCTIONS: u32 = 65_536;
-
-const MOST_REGISTERS: u32 = 1_024;
-
-fn begins_local(text: &[u8], tokens: &[Token]) -> bool
-    ensures { result ≡ begins (begins_if is_local) (lexes text.now tokens.now) }
+fn begins_local(tokens: &[Token]) -> bool
+    ensures { (text : List ℕ) → result ≡ begins (begins_if is_local) (lexes text tokens.now) }
 {
     match tokens {
         [
@@ -60,7 +58,7 @@ fn defined_register<'a>(
     text: &[u8],
     tokens: &'a [Token],
 ) -> Read<'a, (Named, u32)>
-    ensures { Gives text.now (λ x. (x.0, lexes text.now x.1.now)) result (one (want_defined instructions registers) (lexes text.now tokens.now)) }
+    ensures { IsRead (one (want_defined instructions registers)) text.now tokens.now result }
 {
     let [first, rest @ ..] = tokens else {
         return Err(Stop::At(Cause::Unexpected, tokens));
@@ -81,7 +79,7 @@ fn defined_register<'a>(
 
 /// The word of an operation that stands alone, and its place.
 fn plain_word<'a>(instructions: u32, text: &[u8], tokens: &'a [Token]) -> Read<'a, (Keyword, u32)>
-    ensures { Gives text.now (λ x. (x.0, lexes text.now x.1.now)) result (one (want_plain instructions) (lexes text.now tokens.now)) }
+    ensures { IsRead (one (want_plain instructions)) text.now tokens.now result }
 {
     let [first, rest @ ..] = tokens else {
         return Err(Stop::At(Cause::Unexpected, tokens));
@@ -101,7 +99,7 @@ fn plain_word<'a>(instructions: u32, text: &[u8], tokens: &'a [Token]) -> Read<'
 
 /// The word of a terminator, and its place.
 fn jump_word<'a>(instructions: u32, text: &[u8], tokens: &'a [Token]) -> Read<'a, (JumpWord, u32)>
-    ensures { Gives text.now (λ x. (x.0, lexes text.now x.1.now)) result (one (want_jump instructions) (lexes text.now tokens.now)) }
+    ensures { IsRead (one (want_jump instructions)) text.now tokens.now result }
 {
     let [first, rest @ ..] = tokens else {
         return Err(Stop::At(Cause::Unexpected, tokens));
@@ -127,10 +125,10 @@ fn dest<'a>(
     text: &[u8],
     tokens: &'a [Token],
 ) -> Read<'a, (Named, u32)>
-    ensures { Gives text.now (λ x. (x.0, lexes text.now x.1.now)) result (dest_at instructions registers (lexes text.now tokens.now)) }
+    ensures { IsRead (dest_at instructions registers) text.now tokens.now result }
 {
     let (register, rest) = defined_register(alloc, instructions, registers, text, tokens)?;
-    let rest = take_mark(Mark::Equals, text, rest)?;
+    let rest = take_mark(Mark::Equals, rest)?;
     Ok((register, rest))
 }
 
@@ -143,7 +141,7 @@ fn plain<'a>(
     text: &[u8],
     tokens: &'a [Token],
 ) -> Read<'a, (Op, u32)>
-    ensures { Gives text.now (λ x. (x.0, lexes text.now x.1.now)) result (plain_at version instructions (lexes text.now tokens.now)) }
+    ensures { IsRead (plain_at version instructions) text.now tokens.now result }
 {
     let ((keyword, at), rest) = plain_word(instructions, text, tokens)?;
     let (op, rest) = tail(alloc, version, false, keyword, text, rest)?;
@@ -159,7 +157,7 @@ fn defining<'a>(
     text: &[u8],
     tokens: &'a [Token],
 ) -> Read<'a, Inst>
-    ensures { Gives text.now (λ x. (x.0, lexes text.now x.1.now)) result (defining_at version instructions registers (lexes text.now tokens.now)) }
+    ensures { IsRead (defining_at version instructions registers) text.now tokens.now result }
 {
     let ((register, at), rest) = dest(alloc, instructions, registers, text, tokens)?;
     let (op, rest) = defined(alloc, version, text, rest)?;
@@ -175,15 +173,14 @@ fn alone<'a>(
     text: &[u8],
     tokens: &'a [Token],
 ) -> Read<'a, Inst>
-    ensures { Gives text.now (λ x. (x.0, lexes text.now x.1.now)) result (alone_at version instructions (lexes text.now tokens.now)) }
+    ensures { IsRead (alone_at version instructions) text.now tokens.now result }
 {
     let ((op, at), rest) = plain(alloc, version, instructions, text, tokens)?;
     let dest = None;
     Ok((Inst { dest, at, op }, rest))
 }
 
-/// An instruction, where so many instructions of the program and registers of the function stand
-/// before it.
+/// An instruction, after this many instructions of the program and registers of the function.
 pub fn inst<'a>(
     alloc: Global,
     version: u8,
@@ -192,9 +189,9 @@ pub fn inst<'a>(
     text: &[u8],
     tokens: &'a [Token],
 ) -> Read<'a, Inst>
-    ensures { Gives text.now (λ x. (x.0, lexes text.now x.1.now)) result (inst_at version instructions registers (lexes text.now tokens.now)) }
+    ensures { IsRead (inst_at version instructions registers) text.now tokens.now result }
 {
-    if begins_local(text, tokens) {
+    if begins_local(tokens) {
         defining(alloc, version, instructions, registers, text, tokens)
     } else {
         alone(alloc, version, instructions, text, tokens)
@@ -203,7 +200,7 @@ pub fn inst<'a>(
 
 #[tactic(auto, unfolding(crate::specs::Insts::br_at))]
 fn br<'a>(alloc: Global, text: &[u8], tokens: &'a [Token]) -> Read<'a, Jump>
-    ensures { Gives text.now (λ x. (x.0, lexes text.now x.1.now)) result (br_at (lexes text.now tokens.now)) }
+    ensures { IsRead br_at text.now tokens.now result }
 {
     let (goal, rest) = goal(alloc, text, tokens)?;
     Ok((Jump::Br(goal), rest))
@@ -211,15 +208,15 @@ fn br<'a>(alloc: Global, text: &[u8], tokens: &'a [Token]) -> Read<'a, Jump>
 
 #[tactic(auto, unfolding(crate::specs::Insts::next_goal_at))]
 fn next_goal<'a>(alloc: Global, text: &[u8], tokens: &'a [Token]) -> Read<'a, Goal>
-    ensures { Gives text.now (λ x. (x.0, lexes text.now x.1.now)) result (next_goal_at (lexes text.now tokens.now)) }
+    ensures { IsRead next_goal_at text.now tokens.now result }
 {
-    let rest = take_mark(Mark::Comma, text, tokens)?;
+    let rest = take_mark(Mark::Comma, tokens)?;
     goal(alloc, text, rest)
 }
 
 #[tactic(auto, unfolding(crate::specs::Insts::cond_br_at))]
 fn cond_br<'a>(alloc: Global, text: &[u8], tokens: &'a [Token]) -> Read<'a, Jump>
-    ensures { Gives text.now (λ x. (x.0, lexes text.now x.1.now)) result (cond_br_at (lexes text.now tokens.now)) }
+    ensures { IsRead cond_br_at text.now tokens.now result }
 {
     let (cond, rest) = val(alloc, Ty::Int(Width::W8), text, tokens)?;
     let (yes, rest) = next_goal(alloc, text, rest)?;
@@ -235,7 +232,7 @@ fn returned<'a>(
     text: &[u8],
     tokens: &'a [Token],
 ) -> Read<'a, Option<TypedVal>>
-    ensures { Gives text.now (λ x. (x.0, lexes text.now x.1.now)) result (returned_at ty (lexes text.now tokens.now)) }
+    ensures { IsRead (returned_at ty) text.now tokens.now result }
 {
     match ty {
         Some(ty) => {
@@ -248,15 +245,15 @@ fn returned<'a>(
 
 #[tactic(auto, unfolding(crate::specs::Insts::ret_at))]
 fn ret<'a>(alloc: Global, text: &[u8], tokens: &'a [Token]) -> Read<'a, Jump>
-    ensures { Gives text.now (λ x. (x.0, lexes text.now x.1.now)) result (ret_at (lexes text.now tokens.now)) }
+    ensures { IsRead ret_at text.now tokens.now result }
 {
-    let ((ty, ty_at), rest) = placed_result(text, tokens)?;
+    let ((ty, ty_at), rest) = placed::<Option<Ty>>(text, tokens)?;
     let (val, rest) = returned(alloc, ty, text, rest)?;
     Ok((Jump::Ret { val, ty_at }, rest))
 }
 
 fn jump_tail<'a>(alloc: Global, word: JumpWord, text: &[u8], tokens: &'a [Token]) -> Read<'a, Jump>
-    ensures { Gives text.now (λ x. (x.0, lexes text.now x.1.now)) result (jump_tail_at word (lexes text.now tokens.now)) }
+    ensures { IsRead (jump_tail_at word) text.now tokens.now result }
 {
     match word {
         JumpWord::Br => br(alloc, text, tokens),
@@ -266,7 +263,7 @@ fn jump_tail<'a>(alloc: Global, word: JumpWord, text: &[u8], tokens: &'a [Token]
     }
 }
 
-/// A terminator, where so many instructions of the program stand before it.
+/// A terminator, after this many instructions of the program.
 #[tactic(auto, unfolding(crate::specs::Insts::term_at))]
 pub fn term<'a>(
     alloc: Global,
@@ -274,7 +271,7 @@ pub fn term<'a>(
     text: &[u8],
     tokens: &'a [Token],
 ) -> Read<'a, Term>
-    ensures { Gives text.now (λ x. (x.0, lexes text.now x.1.now)) result (term_at instructions (lexes text.now tokens.now)) }
+    ensures { IsRead (term_at instructions) text.now tokens.now result }
 {
     let ((word, at), rest) = jump_word(instructions, text, tokens)?;
     let (jump, rest) = jump_tail(alloc, word, text, rest)?;

@@ -3,6 +3,7 @@ ghost use Rattle.std.specs.Prelude.{◌≡◌};
 ghost use Rattle.ir_reader.specs.Tables.{lookup};
 ghost use Rattle.ir_reader.specs.Keys.{memory_words, arithmetic_words, bit_words, choice_words, shared_words, definers, plains, jumps};
 
+use crate::tables::Word;
 use ir_ast::{BinaryOp, CastOp, Place};
 
 /// The word that an operation begins with.
@@ -153,7 +154,7 @@ fn shared_of(word: &[u8]) -> Option<Keyword>
 }
 
 /// An operation that gives a value.
-pub fn definer_of(word: &[u8]) -> Option<Keyword>
+fn definer_of(word: &[u8]) -> Option<Keyword>
     ensures { result ≡ lookup definers word.now }
 {
     memory_of(word)
@@ -161,6 +162,15 @@ pub fn definer_of(word: &[u8]) -> Option<Keyword>
         .or(bits_of(word))
         .or(choice_of(word))
         .or(shared_of(word))
+}
+
+/// As the first word of an operation that gives a value.
+impl Word for Keyword {
+    ghost words = { definers };
+
+    fn of_word(word: &[u8]) -> Option<Keyword> {
+        definer_of(word)
+    }
 }
 
 /// An operation that may stand without a register.

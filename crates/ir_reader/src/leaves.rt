@@ -1,19 +1,17 @@
 //! Single tokens: names, numbers, and words that stand for a value.
-ghost use Rattle.std.specs.Prelude.{◌≡◌, ◌+◌, ◌^◌, take, drop};
+ghost use Rattle.std.specs.Prelude.{◌≡◌, ℕ, ◌+◌, ◌^◌, List, take, drop};
 ghost use Rattle.ir_ast.specs.Words.{modulus};
 ghost use Rattle.phrase.specs.Lexes.{token_bytes};
 ghost use Rattle.phrase.specs.Reading.{one};
-ghost use Rattle.ir_reader.specs.View.{lexes, Gives, begins};
-ghost use Rattle.ir_reader.specs.Tables.{widths, types, results, kinds, conds, modifiers};
-ghost use Rattle.ir_reader.specs.Keys.{definers};
+ghost use Rattle.ir_reader.specs.View.{lexes, IsRead, IsTaken, begins};
+ghost use Rattle.ir_reader.specs.Tables.{kinds};
 ghost use Rattle.ir_reader.specs.Wants.{want_if, begins_if, is_word, is_any_word, want_local, want_global, want_label, want_among, want_placed, want_amount, want_val};
 
-use crate::keywords::{Keyword, definer_of};
 use crate::numbers::{greatest, number};
 use crate::stop::{Read, Stop};
-use crate::tables::{cond_of, kind_of, modifier_of, result_of, type_of, width_of};
+use crate::tables::{Word, kind_of};
 use bsan_ids::Name;
-use ir_ast::{Cond, ModifyOp, Named, Ty, Val, Width};
+use ir_ast::{Named, Ty, Val, Width};
 use ir_text::{Token, TokenKind};
 use perm_table::RetagKind;
 use phrase::Cause;
@@ -49,8 +47,8 @@ pub fn name_of<'t>(text: &'t [u8], token: &Token) -> &'t [u8]
 }
 
 /// Whether a word is next.
-pub fn begins_any_word(text: &[u8], tokens: &[Token]) -> bool
-    ensures { result ≡ begins (begins_if is_any_word) (lexes text.now tokens.now) }
+pub fn begins_any_word(tokens: &[Token]) -> bool
+    ensures { (text : List ℕ) → result ≡ begins (begins_if is_any_word) (lexes text tokens.now) }
 {
     match tokens {
         [
@@ -66,7 +64,7 @@ pub fn begins_any_word(text: &[u8], tokens: &[Token]) -> bool
 
 /// Takes this word.
 pub fn word<'a>(wanted: &[u8], text: &[u8], tokens: &'a [Token]) -> Result<&'a [Token], Stop<'a>>
-    ensures { Gives text.now (λ rest. (tt, lexes text.now rest.now)) result (one (want_if (is_word wanted.now)) (lexes text.now tokens.now)) }
+    ensures { IsTaken (one (want_if (is_word wanted.now))) text.now tokens.now result }
 {
     let [first, rest @ ..] = tokens else {
         return Err(Stop::At(Cause::Unexpected, tokens));
@@ -79,7 +77,7 @@ pub fn word<'a>(wanted: &[u8], text: &[u8], tokens: &'a [Token]) -> Result<&'a [
 
 /// A register.
 pub fn local<'a>(alloc: Global, text: &[u8], tokens: &'a [Token]) -> Read<'a, Named>
-    ensures { Gives text.now (λ x. (x.0, lexes text.now x.1.now)) result (one want_local (lexes text.now tokens.now)) }
+    ensures { IsRead (one want_local) text.now tokens.now result }
 {
     let [first, rest @ ..] = tokens else {
         return Err(Stop::At(Cause::Unexpected, tokens));
@@ -96,7 +94,7 @@ pub fn local<'a>(alloc: Global, text: &[u8], tokens: &'a [Token]) -> Read<'a, Na
 
 /// A function's or a host's name.
 pub fn global<'a>(alloc: Global, text: &[u8], tokens: &'a [Token]) -> Read<'a, Named>
-    ensures { Gives text.now (λ x. (x.0, lexes text.now x.1.now)) result (one want_global (lexes text.now tokens.now)) }
+    ensures { IsRead (one want_global) text.now tokens.now result }
 {
     let [first, rest @ ..] = tokens else {
         return Err(Stop::At(Cause::Unexpected, tokens));
@@ -113,7 +111,7 @@ pub fn global<'a>(alloc: Global, text: &[u8], tokens: &'a [Token]) -> Read<'a, N
 
 /// A label.
 pub fn label<'a>(alloc: Global, text: &[u8], tokens: &'a [Token]) -> Read<'a, Named>
-    ensures { Gives text.now (λ x. (x.0, lexes text.now x.1.now)) result (one want_label (lexes text.now tokens.now)) }
+    ensures { IsRead (one want_label) text.now tokens.now result }
 {
     let [first, rest @ ..] = tokens else {
         return Err(Stop::At(Cause::Unexpected, tokens));
@@ -128,15 +126,15 @@ pub fn label<'a>(alloc: Global, text: &[u8], tokens: &'a [Token]) -> Read<'a, Na
     }
 }
 
-/// An integer's type.
-pub fn width<'a>(text: &[u8], tokens: &'a [Token]) -> Read<'a, Width>
-    ensures { Gives text.now (λ x. (x.0, lexes text.now x.1.now)) result (one (want_among widths) (lexes text.now tokens.now)) }
+/// The value that the next word stands for.
+pub fn among<'a, T: Word>(text: &[u8], tokens: &'a [Token]) -> Read<'a, T>
+    ensures { IsRead (one (want_among T.words)) text.now tokens.now result }
 {
     let [first, rest @ ..] = tokens else {
         return Err(Stop::At(Cause::Unexpected, tokens));
     };
     if let TokenKind::Word = first.kind
-        && let Some(value) = width_of(bytes_of(text, first))
+        && let Some(value) = T::of_word(bytes_of(text, first))
     {
         Ok((value, rest))
     } else {
@@ -144,95 +142,15 @@ pub fn width<'a>(text: &[u8], tokens: &'a [Token]) -> Read<'a, Width>
     }
 }
 
-/// An integer's type, and its place.
-pub fn placed_width<'a>(text: &[u8], tokens: &'a [Token]) -> Read<'a, (Width, u32)>
-    ensures { Gives text.now (λ x. (x.0, lexes text.now x.1.now)) result (one (want_placed widths) (lexes text.now tokens.now)) }
+/// The value that the next word stands for, and the word's place.
+pub fn placed<'a, T: Word>(text: &[u8], tokens: &'a [Token]) -> Read<'a, (T, u32)>
+    ensures { IsRead (one (want_placed T.words)) text.now tokens.now result }
 {
     let [first, rest @ ..] = tokens else {
         return Err(Stop::At(Cause::Unexpected, tokens));
     };
     if let TokenKind::Word = first.kind
-        && let Some(value) = width_of(bytes_of(text, first))
-    {
-        Ok(((value, first.span.start), rest))
-    } else {
-        Err(Stop::At(Cause::Unexpected, tokens))
-    }
-}
-
-/// A type.
-pub fn ty<'a>(text: &[u8], tokens: &'a [Token]) -> Read<'a, Ty>
-    ensures { Gives text.now (λ x. (x.0, lexes text.now x.1.now)) result (one (want_among types) (lexes text.now tokens.now)) }
-{
-    let [first, rest @ ..] = tokens else {
-        return Err(Stop::At(Cause::Unexpected, tokens));
-    };
-    if let TokenKind::Word = first.kind
-        && let Some(value) = type_of(bytes_of(text, first))
-    {
-        Ok((value, rest))
-    } else {
-        Err(Stop::At(Cause::Unexpected, tokens))
-    }
-}
-
-/// A type, and its place.
-pub fn placed_ty<'a>(text: &[u8], tokens: &'a [Token]) -> Read<'a, (Ty, u32)>
-    ensures { Gives text.now (λ x. (x.0, lexes text.now x.1.now)) result (one (want_placed types) (lexes text.now tokens.now)) }
-{
-    let [first, rest @ ..] = tokens else {
-        return Err(Stop::At(Cause::Unexpected, tokens));
-    };
-    if let TokenKind::Word = first.kind
-        && let Some(value) = type_of(bytes_of(text, first))
-    {
-        Ok(((value, first.span.start), rest))
-    } else {
-        Err(Stop::At(Cause::Unexpected, tokens))
-    }
-}
-
-/// The word of an operation that gives a value.
-pub fn definer<'a>(text: &[u8], tokens: &'a [Token]) -> Read<'a, Keyword>
-    ensures { Gives text.now (λ x. (x.0, lexes text.now x.1.now)) result (one (want_among definers) (lexes text.now tokens.now)) }
-{
-    let [first, rest @ ..] = tokens else {
-        return Err(Stop::At(Cause::Unexpected, tokens));
-    };
-    if let TokenKind::Word = first.kind
-        && let Some(value) = definer_of(bytes_of(text, first))
-    {
-        Ok((value, rest))
-    } else {
-        Err(Stop::At(Cause::Unexpected, tokens))
-    }
-}
-
-/// A type or `void`.
-pub fn result<'a>(text: &[u8], tokens: &'a [Token]) -> Read<'a, Option<Ty>>
-    ensures { Gives text.now (λ x. (x.0, lexes text.now x.1.now)) result (one (want_among results) (lexes text.now tokens.now)) }
-{
-    let [first, rest @ ..] = tokens else {
-        return Err(Stop::At(Cause::Unexpected, tokens));
-    };
-    if let TokenKind::Word = first.kind
-        && let Some(value) = result_of(bytes_of(text, first))
-    {
-        Ok((value, rest))
-    } else {
-        Err(Stop::At(Cause::Unexpected, tokens))
-    }
-}
-
-/// A type or `void`, and its place.
-pub fn placed_result<'a>(text: &[u8], tokens: &'a [Token]) -> Read<'a, (Option<Ty>, u32)>
-    ensures { Gives text.now (λ x. (x.0, lexes text.now x.1.now)) result (one (want_placed results) (lexes text.now tokens.now)) }
-{
-    let [first, rest @ ..] = tokens else {
-        return Err(Stop::At(Cause::Unexpected, tokens));
-    };
-    if let TokenKind::Word = first.kind
-        && let Some(value) = result_of(bytes_of(text, first))
+        && let Some(value) = T::of_word(bytes_of(text, first))
     {
         Ok(((value, first.span.start), rest))
     } else {
@@ -242,7 +160,7 @@ pub fn placed_result<'a>(text: &[u8], tokens: &'a [Token]) -> Read<'a, (Option<T
 
 /// A kind of retag of the version.
 pub fn kind<'a>(version: u8, text: &[u8], tokens: &'a [Token]) -> Read<'a, RetagKind>
-    ensures { Gives text.now (λ x. (x.0, lexes text.now x.1.now)) result (one (want_among (kinds version)) (lexes text.now tokens.now)) }
+    ensures { IsRead (one (want_among (kinds version))) text.now tokens.now result }
 {
     let [first, rest @ ..] = tokens else {
         return Err(Stop::At(Cause::Unexpected, tokens));
@@ -256,41 +174,9 @@ pub fn kind<'a>(version: u8, text: &[u8], tokens: &'a [Token]) -> Read<'a, Retag
     }
 }
 
-/// A condition.
-pub fn cond<'a>(text: &[u8], tokens: &'a [Token]) -> Read<'a, Cond>
-    ensures { Gives text.now (λ x. (x.0, lexes text.now x.1.now)) result (one (want_among conds) (lexes text.now tokens.now)) }
-{
-    let [first, rest @ ..] = tokens else {
-        return Err(Stop::At(Cause::Unexpected, tokens));
-    };
-    if let TokenKind::Word = first.kind
-        && let Some(value) = cond_of(bytes_of(text, first))
-    {
-        Ok((value, rest))
-    } else {
-        Err(Stop::At(Cause::Unexpected, tokens))
-    }
-}
-
-/// What `rmw` does.
-pub fn modifier<'a>(text: &[u8], tokens: &'a [Token]) -> Read<'a, ModifyOp>
-    ensures { Gives text.now (λ x. (x.0, lexes text.now x.1.now)) result (one (want_among modifiers) (lexes text.now tokens.now)) }
-{
-    let [first, rest @ ..] = tokens else {
-        return Err(Stop::At(Cause::Unexpected, tokens));
-    };
-    if let TokenKind::Word = first.kind
-        && let Some(value) = modifier_of(bytes_of(text, first))
-    {
-        Ok((value, rest))
-    } else {
-        Err(Stop::At(Cause::Unexpected, tokens))
-    }
-}
-
 /// A number of the width.
 pub fn amount<'a>(width: Width, text: &[u8], tokens: &'a [Token]) -> Read<'a, u64>
-    ensures { Gives text.now (λ x. (x.0, lexes text.now x.1.now)) result (one (want_amount (modulus width)) (lexes text.now tokens.now)) }
+    ensures { IsRead (one (want_amount (modulus width))) text.now tokens.now result }
 {
     let [first, rest @ ..] = tokens else {
         return Err(Stop::At(Cause::Unexpected, tokens));
@@ -306,7 +192,7 @@ pub fn amount<'a>(width: Width, text: &[u8], tokens: &'a [Token]) -> Read<'a, u6
 
 /// How many bytes something has.
 pub fn size<'a>(text: &[u8], tokens: &'a [Token]) -> Read<'a, u32>
-    ensures { Gives text.now (λ x. (x.0, lexes text.now x.1.now)) result (one (want_amount (2 ^ 32)) (lexes text.now tokens.now)) }
+    ensures { IsRead (one (want_amount (2 ^ 32))) text.now tokens.now result }
 {
     let [first, rest @ ..] = tokens else {
         return Err(Stop::At(Cause::Unexpected, tokens));
@@ -322,7 +208,7 @@ pub fn size<'a>(text: &[u8], tokens: &'a [Token]) -> Read<'a, u32>
 
 /// A register, or a number where the type is an integer's.
 pub fn val<'a>(alloc: Global, ty: Ty, text: &[u8], tokens: &'a [Token]) -> Read<'a, Val>
-    ensures { Gives text.now (λ x. (x.0, lexes text.now x.1.now)) result (one (want_val ty) (lexes text.now tokens.now)) }
+    ensures { IsRead (one (want_val ty)) text.now tokens.now result }
 {
     let [first, rest @ ..] = tokens else {
         return Err(Stop::At(Cause::Unexpected, tokens));

@@ -1,25 +1,13 @@
 //! Marks.
-ghost use Rattle.std.specs.Prelude.{◌≡◌};
-ghost use Rattle.ir_reader.specs.View.{lexes, Gives, begins};
+ghost use Rattle.std.specs.Prelude.{◌≡◌, ℕ, List};
+ghost use Rattle.ir_reader.specs.View.{lexes, IsTaken, begins};
 ghost use Rattle.ir_reader.specs.Wants.{kind_is, is_mark, begins_if};
 ghost use Rattle.ir_reader.specs.Parts.{mark_at};
 
 use crate::stop::Stop;
+use ir_ast::Mark;
 use ir_text::{Token, TokenKind};
 use phrase::Cause;
-
-/// A token that is always written the same.
-#[derive(Clone, Copy)]
-pub enum Mark {
-    OpenRound,
-    CloseRound,
-    OpenBrace,
-    CloseBrace,
-    Comma,
-    Colon,
-    Equals,
-    Arrow,
-}
 
 /// Whether a token of the kind is the mark.
 pub fn kind_is(mark: Mark, kind: TokenKind) -> bool
@@ -40,8 +28,8 @@ pub fn kind_is(mark: Mark, kind: TokenKind) -> bool
 
 /// Whether the next token is the mark.
 #[tactic(auto, using(crate::proofs::MarkForms::mark_by_kind))]
-pub fn begins_mark(mark: Mark, text: &[u8], tokens: &[Token]) -> bool
-    ensures { result ≡ begins (begins_if (is_mark mark)) (lexes text.now tokens.now) }
+pub fn begins_mark(mark: Mark, tokens: &[Token]) -> bool
+    ensures { (text : List ℕ) → result ≡ begins (begins_if (is_mark mark)) (lexes text tokens.now) }
 {
     match tokens {
         [first, ..] => kind_is(mark, first.kind),
@@ -51,8 +39,8 @@ pub fn begins_mark(mark: Mark, text: &[u8], tokens: &[Token]) -> bool
 
 /// Takes the mark.
 #[tactic(auto, using(crate::proofs::MarkForms::mark_by_kind))]
-pub fn take_mark<'a>(mark: Mark, text: &[u8], tokens: &'a [Token]) -> Result<&'a [Token], Stop<'a>>
-    ensures { Gives text.now (λ rest. (tt, lexes text.now rest.now)) result (mark_at mark (lexes text.now tokens.now)) }
+pub fn take_mark<'a>(mark: Mark, tokens: &'a [Token]) -> Result<&'a [Token], Stop<'a>>
+    ensures { (text : List ℕ) → IsTaken (mark_at mark) text tokens.now result }
 {
     match tokens {
         [first, rest @ ..] if kind_is(mark, first.kind) => Ok(rest),

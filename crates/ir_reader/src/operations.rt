@@ -1,8 +1,8 @@
-//! Operations, behind the words that they begin with.
+//! Operations, after the words that they begin with.
 ghost use Rattle.std.specs.Prelude.{◌≡◌};
 ghost use Rattle.ir_ast.specs.declared.types.Ty.TheVariants.{Int};
 ghost use Rattle.ir_ast.specs.declared.types.Width.TheVariants.{W64};
-ghost use Rattle.ir_reader.specs.View.{lexes, Gives};
+ghost use Rattle.ir_reader.specs.View.{IsRead};
 ghost use Rattle.phrase.specs.Reading.{one};
 ghost use Rattle.ir_reader.specs.Keys.{definers, plains, jumps};
 ghost use Rattle.ir_reader.specs.Tables.{types};
@@ -10,46 +10,43 @@ ghost use Rattle.ir_reader.specs.Wants.{want_among, want_placed};
 ghost use Rattle.ir_reader.specs.Ops.{next_register_at, next_value_at, two_at, next_two_at, callee_at, result_at, placed_result_at, const_at, make_at, gep_at, load_at, store_at, next_size_at, retag_at, binary_at, compare_at, select_at, to_at, cast_at, ptr_to_int_at, input_at, modify_at, cmp_xchg_at, copy_at, free_at, print_at, call_at, host_at, spawn_at, join_at, tail_at, defined_at};
 
 use crate::keywords::Keyword;
-use crate::leaves::{
-    amount, cond, definer, global, kind, local, modifier, placed_result, placed_ty, placed_width,
-    result, size, ty, val, width, word,
-};
-use crate::marks::{Mark, take_mark};
+use crate::leaves::{among, amount, global, kind, local, placed, size, val, word};
+use crate::marks::take_mark;
 use crate::stop::{Read, Stop};
 use crate::values::args;
 use bsan_ids::ListOf;
-use ir_ast::{BinaryOp, CastOp, Named, Op, Place, Ty, TypedVal, Val, Width};
+use ir_ast::{BinaryOp, CastOp, Cond, Mark, ModifyOp, Named, Op, Place, Ty, TypedVal, Val, Width};
 use ir_text::Token;
 use std::alloc::Global;
 
 #[tactic(auto, unfolding(crate::specs::Ops::next_register_at))]
 fn next_local<'a>(alloc: Global, text: &[u8], tokens: &'a [Token]) -> Read<'a, Named>
-    ensures { Gives text.now (λ x. (x.0, lexes text.now x.1.now)) result (next_register_at (lexes text.now tokens.now)) }
+    ensures { IsRead next_register_at text.now tokens.now result }
 {
-    let rest = take_mark(Mark::Comma, text, tokens)?;
+    let rest = take_mark(Mark::Comma, tokens)?;
     local(alloc, text, rest)
 }
 
 #[tactic(auto, unfolding(crate::specs::Ops::next_value_at))]
 fn next_val<'a>(alloc: Global, ty: Ty, text: &[u8], tokens: &'a [Token]) -> Read<'a, Val>
-    ensures { Gives text.now (λ x. (x.0, lexes text.now x.1.now)) result (next_value_at ty (lexes text.now tokens.now)) }
+    ensures { IsRead (next_value_at ty) text.now tokens.now result }
 {
-    let rest = take_mark(Mark::Comma, text, tokens)?;
+    let rest = take_mark(Mark::Comma, tokens)?;
     val(alloc, ty, text, rest)
 }
 
 #[tactic(auto, unfolding(crate::specs::Ops::next_size_at))]
 fn next_size<'a>(text: &[u8], tokens: &'a [Token]) -> Read<'a, u32>
-    ensures { Gives text.now (λ x. (x.0, lexes text.now x.1.now)) result (next_size_at (lexes text.now tokens.now)) }
+    ensures { IsRead next_size_at text.now tokens.now result }
 {
-    let rest = take_mark(Mark::Comma, text, tokens)?;
+    let rest = take_mark(Mark::Comma, tokens)?;
     size(text, rest)
 }
 
 /// Two values of a type.
 #[tactic(auto, unfolding(crate::specs::Ops::two_at))]
 fn two<'a>(alloc: Global, ty: Ty, text: &[u8], tokens: &'a [Token]) -> Read<'a, (Val, Val)>
-    ensures { Gives text.now (λ x. (x.0, lexes text.now x.1.now)) result (two_at ty (lexes text.now tokens.now)) }
+    ensures { IsRead (two_at ty) text.now tokens.now result }
 {
     let (first, rest) = val(alloc, ty, text, tokens)?;
     let (second, rest) = next_val(alloc, ty, text, rest)?;
@@ -58,9 +55,9 @@ fn two<'a>(alloc: Global, ty: Ty, text: &[u8], tokens: &'a [Token]) -> Read<'a, 
 
 #[tactic(auto, unfolding(crate::specs::Ops::next_two_at))]
 fn next_two<'a>(alloc: Global, ty: Ty, text: &[u8], tokens: &'a [Token]) -> Read<'a, (Val, Val)>
-    ensures { Gives text.now (λ x. (x.0, lexes text.now x.1.now)) result (next_two_at ty (lexes text.now tokens.now)) }
+    ensures { IsRead (next_two_at ty) text.now tokens.now result }
 {
-    let rest = take_mark(Mark::Comma, text, tokens)?;
+    let rest = take_mark(Mark::Comma, tokens)?;
     two(alloc, ty, text, rest)
 }
 
@@ -71,7 +68,7 @@ fn callee<'a>(
     text: &[u8],
     tokens: &'a [Token],
 ) -> Read<'a, (Named, ListOf<TypedVal>)>
-    ensures { Gives text.now (λ x. (x.0, lexes text.now x.1.now)) result (callee_at (lexes text.now tokens.now)) }
+    ensures { IsRead callee_at text.now tokens.now result }
 {
     let (name, rest) = global(alloc, text, tokens)?;
     let (args, rest) = args(alloc, text, rest)?;
@@ -81,13 +78,13 @@ fn callee<'a>(
 /// The type of a result, which may be `void` where it is not to be typed.
 #[tactic(auto, unfolding(crate::specs::Ops::result_at))]
 fn result_type<'a>(typed: bool, text: &[u8], tokens: &'a [Token]) -> Read<'a, Option<Ty>>
-    ensures { Gives text.now (λ x. (x.0, lexes text.now x.1.now)) result (result_at typed (lexes text.now tokens.now)) }
+    ensures { IsRead (result_at typed) text.now tokens.now result }
 {
     if typed {
-        let (ty, rest) = ty(text, tokens)?;
+        let (ty, rest) = among::<Ty>(text, tokens)?;
         Ok((Some(ty), rest))
     } else {
-        result(text, tokens)
+        among::<Option<Ty>>(text, tokens)
     }
 }
 
@@ -97,28 +94,28 @@ fn placed_result_type<'a>(
     text: &[u8],
     tokens: &'a [Token],
 ) -> Read<'a, (Option<Ty>, u32)>
-    ensures { Gives text.now (λ x. (x.0, lexes text.now x.1.now)) result (placed_result_at typed (lexes text.now tokens.now)) }
+    ensures { IsRead (placed_result_at typed) text.now tokens.now result }
 {
     if typed {
-        let ((ty, at), rest) = placed_ty(text, tokens)?;
+        let ((ty, at), rest) = placed::<Ty>(text, tokens)?;
         Ok(((Some(ty), at), rest))
     } else {
-        placed_result(text, tokens)
+        placed::<Option<Ty>>(text, tokens)
     }
 }
 
 #[tactic(auto, unfolding(crate::specs::Ops::const_at))]
 fn constant<'a>(text: &[u8], tokens: &'a [Token]) -> Read<'a, Op>
-    ensures { Gives text.now (λ x. (x.0, lexes text.now x.1.now)) result (const_at (lexes text.now tokens.now)) }
+    ensures { IsRead const_at text.now tokens.now result }
 {
-    let (width, rest) = width(text, tokens)?;
+    let (width, rest) = among::<Width>(text, tokens)?;
     let (value, rest) = amount(width, text, rest)?;
     Ok((Op::Const { width, value }, rest))
 }
 
 #[tactic(auto, unfolding(crate::specs::Ops::make_at))]
 fn make<'a>(alloc: Global, place: Place, text: &[u8], tokens: &'a [Token]) -> Read<'a, Op>
-    ensures { Gives text.now (λ x. (x.0, lexes text.now x.1.now)) result (make_at place (lexes text.now tokens.now)) }
+    ensures { IsRead (make_at place) text.now tokens.now result }
 {
     let (size, rest) = val(alloc, Ty::Int(Width::W64), text, tokens)?;
     Ok((Op::Make { place, size }, rest))
@@ -126,7 +123,7 @@ fn make<'a>(alloc: Global, place: Place, text: &[u8], tokens: &'a [Token]) -> Re
 
 #[tactic(auto, unfolding(crate::specs::Ops::gep_at))]
 fn gep<'a>(alloc: Global, text: &[u8], tokens: &'a [Token]) -> Read<'a, Op>
-    ensures { Gives text.now (λ x. (x.0, lexes text.now x.1.now)) result (gep_at (lexes text.now tokens.now)) }
+    ensures { IsRead gep_at text.now tokens.now result }
 {
     let (ptr, rest) = local(alloc, text, tokens)?;
     let (add, rest) = next_val(alloc, Ty::Int(Width::W64), text, rest)?;
@@ -135,18 +132,18 @@ fn gep<'a>(alloc: Global, text: &[u8], tokens: &'a [Token]) -> Read<'a, Op>
 
 #[tactic(auto, unfolding(crate::specs::Ops::load_at))]
 fn load<'a>(alloc: Global, text: &[u8], tokens: &'a [Token]) -> Read<'a, Op>
-    ensures { Gives text.now (λ x. (x.0, lexes text.now x.1.now)) result (load_at (lexes text.now tokens.now)) }
+    ensures { IsRead load_at text.now tokens.now result }
 {
-    let (ty, rest) = ty(text, tokens)?;
+    let (ty, rest) = among::<Ty>(text, tokens)?;
     let (ptr, rest) = next_local(alloc, text, rest)?;
     Ok((Op::Load { ty, ptr }, rest))
 }
 
 #[tactic(auto, unfolding(crate::specs::Ops::store_at))]
 fn store<'a>(alloc: Global, text: &[u8], tokens: &'a [Token]) -> Read<'a, Op>
-    ensures { Gives text.now (λ x. (x.0, lexes text.now x.1.now)) result (store_at (lexes text.now tokens.now)) }
+    ensures { IsRead store_at text.now tokens.now result }
 {
-    let (ty, rest) = ty(text, tokens)?;
+    let (ty, rest) = among::<Ty>(text, tokens)?;
     let (val, rest) = val(alloc, ty, text, rest)?;
     let (ptr, rest) = next_local(alloc, text, rest)?;
     Ok((Op::Store { ty, val, ptr }, rest))
@@ -154,7 +151,7 @@ fn store<'a>(alloc: Global, text: &[u8], tokens: &'a [Token]) -> Read<'a, Op>
 
 #[tactic(auto, unfolding(crate::specs::Ops::retag_at))]
 fn retag<'a>(alloc: Global, version: u8, text: &[u8], tokens: &'a [Token]) -> Read<'a, Op>
-    ensures { Gives text.now (λ x. (x.0, lexes text.now x.1.now)) result (retag_at version (lexes text.now tokens.now)) }
+    ensures { IsRead (retag_at version) text.now tokens.now result }
 {
     let (kind, rest) = kind(version, text, tokens)?;
     let (ptr, rest) = local(alloc, text, rest)?;
@@ -164,28 +161,28 @@ fn retag<'a>(alloc: Global, version: u8, text: &[u8], tokens: &'a [Token]) -> Re
 
 #[tactic(auto, unfolding(crate::specs::Ops::binary_at))]
 fn binary<'a>(alloc: Global, op: BinaryOp, text: &[u8], tokens: &'a [Token]) -> Read<'a, Op>
-    ensures { Gives text.now (λ x. (x.0, lexes text.now x.1.now)) result (binary_at op (lexes text.now tokens.now)) }
+    ensures { IsRead (binary_at op) text.now tokens.now result }
 {
-    let (width, rest) = width(text, tokens)?;
+    let (width, rest) = among::<Width>(text, tokens)?;
     let ((a, b), rest) = two(alloc, Ty::Int(width), text, rest)?;
     Ok((Op::Binary { op, width, a, b }, rest))
 }
 
 #[tactic(auto, unfolding(crate::specs::Ops::compare_at))]
 fn compare<'a>(alloc: Global, text: &[u8], tokens: &'a [Token]) -> Read<'a, Op>
-    ensures { Gives text.now (λ x. (x.0, lexes text.now x.1.now)) result (compare_at (lexes text.now tokens.now)) }
+    ensures { IsRead compare_at text.now tokens.now result }
 {
-    let (cond, rest) = cond(text, tokens)?;
-    let (ty, rest) = ty(text, rest)?;
+    let (cond, rest) = among::<Cond>(text, tokens)?;
+    let (ty, rest) = among::<Ty>(text, rest)?;
     let ((a, b), rest) = two(alloc, ty, text, rest)?;
     Ok((Op::Compare { cond, ty, a, b }, rest))
 }
 
 #[tactic(auto, unfolding(crate::specs::Ops::select_at))]
 fn select<'a>(alloc: Global, text: &[u8], tokens: &'a [Token]) -> Read<'a, Op>
-    ensures { Gives text.now (λ x. (x.0, lexes text.now x.1.now)) result (select_at (lexes text.now tokens.now)) }
+    ensures { IsRead select_at text.now tokens.now result }
 {
-    let (ty, rest) = ty(text, tokens)?;
+    let (ty, rest) = among::<Ty>(text, tokens)?;
     let (cond, rest) = val(alloc, Ty::Int(Width::W8), text, rest)?;
     let ((a, b), rest) = next_two(alloc, ty, text, rest)?;
     Ok((Op::Select { ty, cond, a, b }, rest))
@@ -194,17 +191,17 @@ fn select<'a>(alloc: Global, text: &[u8], tokens: &'a [Token]) -> Read<'a, Op>
 /// `to` and a width.
 #[tactic(auto, unfolding(crate::specs::Ops::to_at))]
 fn to<'a>(text: &[u8], tokens: &'a [Token]) -> Read<'a, (Width, u32)>
-    ensures { Gives text.now (λ x. (x.0, lexes text.now x.1.now)) result (to_at (lexes text.now tokens.now)) }
+    ensures { IsRead to_at text.now tokens.now result }
 {
     let rest = word(b"to".as_slice(), text, tokens)?;
-    placed_width(text, rest)
+    placed::<Width>(text, rest)
 }
 
 #[tactic(auto, unfolding(crate::specs::Ops::cast_at))]
 fn cast<'a>(alloc: Global, op: CastOp, text: &[u8], tokens: &'a [Token]) -> Read<'a, Op>
-    ensures { Gives text.now (λ x. (x.0, lexes text.now x.1.now)) result (cast_at op (lexes text.now tokens.now)) }
+    ensures { IsRead (cast_at op) text.now tokens.now result }
 {
-    let (from, rest) = width(text, tokens)?;
+    let (from, rest) = among::<Width>(text, tokens)?;
     let (val, rest) = val(alloc, Ty::Int(from), text, rest)?;
     let ((to, to_at), rest) = to(text, rest)?;
     Ok((
@@ -221,7 +218,7 @@ fn cast<'a>(alloc: Global, op: CastOp, text: &[u8], tokens: &'a [Token]) -> Read
 
 #[tactic(auto, unfolding(crate::specs::Ops::ptr_to_int_at))]
 fn ptr_to_int<'a>(alloc: Global, text: &[u8], tokens: &'a [Token]) -> Read<'a, Op>
-    ensures { Gives text.now (λ x. (x.0, lexes text.now x.1.now)) result (ptr_to_int_at (lexes text.now tokens.now)) }
+    ensures { IsRead ptr_to_int_at text.now tokens.now result }
 {
     let (ptr, rest) = local(alloc, text, tokens)?;
     Ok((Op::PtrToInt { ptr }, rest))
@@ -229,7 +226,7 @@ fn ptr_to_int<'a>(alloc: Global, text: &[u8], tokens: &'a [Token]) -> Read<'a, O
 
 #[tactic(auto, unfolding(crate::specs::Ops::input_at))]
 fn input<'a>(alloc: Global, text: &[u8], tokens: &'a [Token]) -> Read<'a, Op>
-    ensures { Gives text.now (λ x. (x.0, lexes text.now x.1.now)) result (input_at (lexes text.now tokens.now)) }
+    ensures { IsRead input_at text.now tokens.now result }
 {
     let (index, rest) = val(alloc, Ty::Int(Width::W64), text, tokens)?;
     Ok((Op::Input { index }, rest))
@@ -237,10 +234,10 @@ fn input<'a>(alloc: Global, text: &[u8], tokens: &'a [Token]) -> Read<'a, Op>
 
 #[tactic(auto, unfolding(crate::specs::Ops::modify_at))]
 fn modify<'a>(alloc: Global, text: &[u8], tokens: &'a [Token]) -> Read<'a, Op>
-    ensures { Gives text.now (λ x. (x.0, lexes text.now x.1.now)) result (modify_at (lexes text.now tokens.now)) }
+    ensures { IsRead modify_at text.now tokens.now result }
 {
-    let (op, rest) = modifier(text, tokens)?;
-    let (width, rest) = width(text, rest)?;
+    let (op, rest) = among::<ModifyOp>(text, tokens)?;
+    let (width, rest) = among::<Width>(text, rest)?;
     let (ptr, rest) = local(alloc, text, rest)?;
     let (val, rest) = next_val(alloc, Ty::Int(width), text, rest)?;
     Ok((
@@ -256,9 +253,9 @@ fn modify<'a>(alloc: Global, text: &[u8], tokens: &'a [Token]) -> Read<'a, Op>
 
 #[tactic(auto, unfolding(crate::specs::Ops::cmp_xchg_at))]
 fn cmp_xchg<'a>(alloc: Global, text: &[u8], tokens: &'a [Token]) -> Read<'a, Op>
-    ensures { Gives text.now (λ x. (x.0, lexes text.now x.1.now)) result (cmp_xchg_at (lexes text.now tokens.now)) }
+    ensures { IsRead cmp_xchg_at text.now tokens.now result }
 {
-    let (width, rest) = width(text, tokens)?;
+    let (width, rest) = among::<Width>(text, tokens)?;
     let (ptr, rest) = local(alloc, text, rest)?;
     let ((expected, val), rest) = next_two(alloc, Ty::Int(width), text, rest)?;
     Ok((
@@ -274,7 +271,7 @@ fn cmp_xchg<'a>(alloc: Global, text: &[u8], tokens: &'a [Token]) -> Read<'a, Op>
 
 #[tactic(auto, unfolding(crate::specs::Ops::copy_at))]
 fn copy<'a>(alloc: Global, text: &[u8], tokens: &'a [Token]) -> Read<'a, Op>
-    ensures { Gives text.now (λ x. (x.0, lexes text.now x.1.now)) result (copy_at (lexes text.now tokens.now)) }
+    ensures { IsRead copy_at text.now tokens.now result }
 {
     let (to, rest) = local(alloc, text, tokens)?;
     let (from, rest) = next_local(alloc, text, rest)?;
@@ -284,7 +281,7 @@ fn copy<'a>(alloc: Global, text: &[u8], tokens: &'a [Token]) -> Read<'a, Op>
 
 #[tactic(auto, unfolding(crate::specs::Ops::free_at))]
 fn free<'a>(alloc: Global, text: &[u8], tokens: &'a [Token]) -> Read<'a, Op>
-    ensures { Gives text.now (λ x. (x.0, lexes text.now x.1.now)) result (free_at (lexes text.now tokens.now)) }
+    ensures { IsRead free_at text.now tokens.now result }
 {
     let (ptr, rest) = local(alloc, text, tokens)?;
     Ok((Op::Free { ptr }, rest))
@@ -292,16 +289,16 @@ fn free<'a>(alloc: Global, text: &[u8], tokens: &'a [Token]) -> Read<'a, Op>
 
 #[tactic(auto, unfolding(crate::specs::Ops::print_at))]
 fn print<'a>(alloc: Global, text: &[u8], tokens: &'a [Token]) -> Read<'a, Op>
-    ensures { Gives text.now (λ x. (x.0, lexes text.now x.1.now)) result (print_at (lexes text.now tokens.now)) }
+    ensures { IsRead print_at text.now tokens.now result }
 {
-    let (width, rest) = width(text, tokens)?;
+    let (width, rest) = among::<Width>(text, tokens)?;
     let (val, rest) = val(alloc, Ty::Int(width), text, rest)?;
     Ok((Op::Print { width, val }, rest))
 }
 
 #[tactic(auto, unfolding(crate::specs::Ops::call_at))]
 fn call<'a>(alloc: Global, typed: bool, text: &[u8], tokens: &'a [Token]) -> Read<'a, Op>
-    ensures { Gives text.now (λ x. (x.0, lexes text.now x.1.now)) result (call_at typed (lexes text.now tokens.now)) }
+    ensures { IsRead (call_at typed) text.now tokens.now result }
 {
     let (result, rest) = result_type(typed, text, tokens)?;
     let ((function, args), rest) = callee(alloc, text, rest)?;
@@ -317,16 +314,16 @@ fn call<'a>(alloc: Global, typed: bool, text: &[u8], tokens: &'a [Token]) -> Rea
 
 #[tactic(auto, unfolding(crate::specs::Ops::host_at))]
 fn host<'a>(alloc: Global, text: &[u8], tokens: &'a [Token]) -> Read<'a, Op>
-    ensures { Gives text.now (λ x. (x.0, lexes text.now x.1.now)) result (host_at (lexes text.now tokens.now)) }
+    ensures { IsRead host_at text.now tokens.now result }
 {
-    let (result, rest) = ty(text, tokens)?;
+    let (result, rest) = among::<Ty>(text, tokens)?;
     let ((host, args), rest) = callee(alloc, text, rest)?;
     Ok((Op::Host { result, host, args }, rest))
 }
 
 #[tactic(auto, unfolding(crate::specs::Ops::spawn_at))]
 fn spawn<'a>(alloc: Global, text: &[u8], tokens: &'a [Token]) -> Read<'a, Op>
-    ensures { Gives text.now (λ x. (x.0, lexes text.now x.1.now)) result (spawn_at (lexes text.now tokens.now)) }
+    ensures { IsRead spawn_at text.now tokens.now result }
 {
     let ((function, args), rest) = callee(alloc, text, tokens)?;
     Ok((Op::Spawn { function, args }, rest))
@@ -334,7 +331,7 @@ fn spawn<'a>(alloc: Global, text: &[u8], tokens: &'a [Token]) -> Read<'a, Op>
 
 #[tactic(auto, unfolding(crate::specs::Ops::join_at))]
 fn join<'a>(alloc: Global, typed: bool, text: &[u8], tokens: &'a [Token]) -> Read<'a, Op>
-    ensures { Gives text.now (λ x. (x.0, lexes text.now x.1.now)) result (join_at typed (lexes text.now tokens.now)) }
+    ensures { IsRead (join_at typed) text.now tokens.now result }
 {
     let ((result, ty_at), rest) = placed_result_type(typed, text, tokens)?;
     let (handle, rest) = local(alloc, text, rest)?;
@@ -357,7 +354,7 @@ pub fn tail<'a>(
     text: &[u8],
     tokens: &'a [Token],
 ) -> Read<'a, Op>
-    ensures { Gives text.now (λ x. (x.0, lexes text.now x.1.now)) result (tail_at version typed keyword (lexes text.now tokens.now)) }
+    ensures { IsRead (tail_at version typed keyword) text.now tokens.now result }
 {
     match keyword {
         Keyword::Const => constant(text, tokens),
@@ -385,11 +382,11 @@ pub fn tail<'a>(
     }
 }
 
-/// An operation behind a register and `=`.
+/// An operation after a register and `=`.
 #[tactic(auto, unfolding(crate::specs::Ops::defined_at))]
 pub fn defined<'a>(alloc: Global, version: u8, text: &[u8], tokens: &'a [Token]) -> Read<'a, Op>
-    ensures { Gives text.now (λ x. (x.0, lexes text.now x.1.now)) result (defined_at version (lexes text.now tokens.now)) }
+    ensures { IsRead (defined_at version) text.now tokens.now result }
 {
-    let (keyword, rest) = definer(text, tokens)?;
+    let (keyword, rest) = among::<Keyword>(text, tokens)?;
     tail(alloc, version, true, keyword, text, rest)
 }

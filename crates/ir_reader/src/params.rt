@@ -1,34 +1,31 @@
 //! Attributes and parameters.
 ghost use Rattle.std.specs.Prelude.{◌≡◌};
-ghost use Rattle.ir_reader.specs.View.{lexes, Gives, with_front};
+ghost use Rattle.ir_reader.specs.View.{IsRead, onto};
 ghost use Rattle.ir_reader.specs.Blocks.{attr_at, some_attr_at, optional_attr_at, attr_for, param_register_at, param_at, next_param_at, more_params_at, params_at, some_params_at, function_params_at, round_params_at, block_params_at, head_at, result_ty_at, arrow_result_at};
 
-use crate::leaves::{begins_any_word, kind, name_of, result, size, ty};
-use crate::marks::{Mark, begins_mark, take_mark};
+use crate::leaves::{among, begins_any_word, kind, name_of, size};
+use crate::marks::{begins_mark, take_mark};
 use crate::stop::{Read, Stop};
 use bsan_ids::{ListOf, Name};
-use ir_ast::{Attr, Named, Param, ResultTy, Ty};
+use ir_ast::{Attr, MOST_REGISTERS, Mark, Named, Param, ResultTy, Ty};
 use ir_text::{Token, TokenKind};
 use phrase::Cause;
 use std::alloc::Global;
 
-/// The most registers of a function.
-const MOST_REGISTERS: u32 = 1_024;
-
 #[tactic(auto, unfolding(crate::specs::Blocks::attr_at))]
 fn attr<'a>(version: u8, text: &[u8], tokens: &'a [Token]) -> Read<'a, Attr>
-    ensures { Gives text.now (λ x. (x.0, lexes text.now x.1.now)) result (attr_at version (lexes text.now tokens.now)) }
+    ensures { IsRead (attr_at version) text.now tokens.now result }
 {
     let (kind, rest) = kind(version, text, tokens)?;
-    let rest = take_mark(Mark::OpenRound, text, rest)?;
+    let rest = take_mark(Mark::OpenRound, rest)?;
     let (size, rest) = size(text, rest)?;
-    let rest = take_mark(Mark::CloseRound, text, rest)?;
+    let rest = take_mark(Mark::CloseRound, rest)?;
     Ok((Attr { kind, size }, rest))
 }
 
 #[tactic(auto, unfolding(crate::specs::Blocks::some_attr_at))]
 fn some_attr<'a>(version: u8, text: &[u8], tokens: &'a [Token]) -> Read<'a, Option<Attr>>
-    ensures { Gives text.now (λ x. (x.0, lexes text.now x.1.now)) result (some_attr_at version (lexes text.now tokens.now)) }
+    ensures { IsRead (some_attr_at version) text.now tokens.now result }
 {
     let (attr, rest) = attr(version, text, tokens)?;
     Ok((Some(attr), rest))
@@ -36,24 +33,24 @@ fn some_attr<'a>(version: u8, text: &[u8], tokens: &'a [Token]) -> Read<'a, Opti
 
 /// An attribute, if a word is next.
 fn optional_attr<'a>(version: u8, text: &[u8], tokens: &'a [Token]) -> Read<'a, Option<Attr>>
-    ensures { Gives text.now (λ x. (x.0, lexes text.now x.1.now)) result (optional_attr_at version (lexes text.now tokens.now)) }
+    ensures { IsRead (optional_attr_at version) text.now tokens.now result }
 {
-    if begins_any_word(text, tokens) {
+    if begins_any_word(tokens) {
         some_attr(version, text, tokens)
     } else {
         Ok((None, tokens))
     }
 }
 
-/// The attribute of a type, which may stand at `ptr` where attributes may stand at all: those of
-/// the version `attrs`.
+/// The attribute of a type. Only `ptr` may have one, and only where `attrs` names the version whose
+/// attributes are allowed.
 fn attr_for<'a>(
     attrs: Option<u8>,
     ty: Option<Ty>,
     text: &[u8],
     tokens: &'a [Token],
 ) -> Read<'a, Option<Attr>>
-    ensures { Gives text.now (λ x. (x.0, lexes text.now x.1.now)) result (attr_for attrs ty (lexes text.now tokens.now)) }
+    ensures { IsRead (attr_for attrs ty) text.now tokens.now result }
 {
     match (attrs, ty) {
         (Some(version), Some(Ty::Ptr)) => optional_attr(version, text, tokens),
@@ -61,7 +58,7 @@ fn attr_for<'a>(
     }
 }
 
-/// A register that a parameter defines, where so many registers of the function stand before it.
+/// A register that a parameter defines, after this many registers of the function.
 #[tactic(auto, unfolding(crate::specs::Blocks::param_register_at))]
 fn param_register<'a>(
     alloc: Global,
@@ -69,7 +66,7 @@ fn param_register<'a>(
     text: &[u8],
     tokens: &'a [Token],
 ) -> Read<'a, Named>
-    ensures { Gives text.now (λ x. (x.0, lexes text.now x.1.now)) result (param_register_at registers (lexes text.now tokens.now)) }
+    ensures { IsRead (param_register_at registers) text.now tokens.now result }
 {
     let [first, rest @ ..] = tokens else {
         return Err(Stop::At(Cause::Unexpected, tokens));
@@ -96,9 +93,9 @@ fn param<'a>(
     text: &[u8],
     tokens: &'a [Token],
 ) -> Read<'a, Param>
-    ensures { Gives text.now (λ x. (x.0, lexes text.now x.1.now)) result (param_at attrs registers (lexes text.now tokens.now)) }
+    ensures { IsRead (param_at attrs registers) text.now tokens.now result }
 {
-    let (ty, rest) = ty(text, tokens)?;
+    let (ty, rest) = among::<Ty>(text, tokens)?;
     let (attr, rest) = attr_for(attrs, Some(ty), text, rest)?;
     let (reg, rest) = param_register(alloc, registers, text, rest)?;
     Ok((Param { ty, attr, reg }, rest))
@@ -112,18 +109,18 @@ fn next_param<'a>(
     text: &[u8],
     tokens: &'a [Token],
 ) -> Read<'a, Param>
-    ensures { Gives text.now (λ x. (x.0, lexes text.now x.1.now)) result (next_param_at attrs registers (lexes text.now tokens.now)) }
+    ensures { IsRead (next_param_at attrs registers) text.now tokens.now result }
 {
-    let rest = take_mark(Mark::Comma, text, tokens)?;
+    let rest = take_mark(Mark::Comma, tokens)?;
     param(alloc, attrs, registers, text, rest)
 }
 
 /// The result of a function, with its attribute.
 #[tactic(auto, unfolding(crate::specs::Blocks::result_ty_at))]
 fn result_ty<'a>(version: u8, text: &[u8], tokens: &'a [Token]) -> Read<'a, ResultTy>
-    ensures { Gives text.now (λ x. (x.0, lexes text.now x.1.now)) result (result_ty_at version (lexes text.now tokens.now)) }
+    ensures { IsRead (result_ty_at version) text.now tokens.now result }
 {
-    let (ty, rest) = result(text, tokens)?;
+    let (ty, rest) = among::<Option<Ty>>(text, tokens)?;
     let (attr, rest) = attr_for(Some(version), ty, text, rest)?;
     Ok((ResultTy { ty, attr }, rest))
 }
@@ -131,15 +128,15 @@ fn result_ty<'a>(version: u8, text: &[u8], tokens: &'a [Token]) -> Read<'a, Resu
 /// From `->` to `{`.
 #[tactic(auto, unfolding(crate::specs::Blocks::arrow_result_at))]
 pub fn arrow_result<'a>(version: u8, text: &[u8], tokens: &'a [Token]) -> Read<'a, ResultTy>
-    ensures { Gives text.now (λ x. (x.0, lexes text.now x.1.now)) result (arrow_result_at version (lexes text.now tokens.now)) }
+    ensures { IsRead (arrow_result_at version) text.now tokens.now result }
 {
-    let rest = take_mark(Mark::Arrow, text, tokens)?;
+    let rest = take_mark(Mark::Arrow, tokens)?;
     let (result, rest) = result_ty(version, text, rest)?;
-    let rest = take_mark(Mark::OpenBrace, text, rest)?;
+    let rest = take_mark(Mark::OpenBrace, rest)?;
     Ok((result, rest))
 }
 
-/// Appends the parameters that follow, each after a comma. So many registers stand before them.
+/// Appends the parameters that follow, each after a comma, and all after this many registers.
 fn more_params<'a>(
     alloc: Global,
     attrs: Option<u8>,
@@ -148,12 +145,12 @@ fn more_params<'a>(
     text: &[u8],
     tokens: &'a [Token],
 ) -> Read<'a, ListOf<Param>>
-    ensures { Gives text.now (λ x. (x.0, lexes text.now x.1.now)) result (with_front front (more_params_at attrs registers (lexes text.now tokens.now))) }
+    ensures { IsRead (onto front (more_params_at attrs registers)) text.now tokens.now result }
 {
     let mut params = front;
     let mut rest = tokens;
     let mut before = registers;
-    while begins_mark(Mark::Comma, text, rest) {
+    while begins_mark(Mark::Comma, rest) {
         let (param, after) = next_param(alloc, attrs, before, text, rest)?;
         params.push(param)?;
         before += 1;
@@ -169,7 +166,7 @@ fn params<'a>(
     text: &[u8],
     tokens: &'a [Token],
 ) -> Read<'a, ListOf<Param>>
-    ensures { Gives text.now (λ x. (x.0, lexes text.now x.1.now)) result (params_at attrs registers (lexes text.now tokens.now)) }
+    ensures { IsRead (params_at attrs registers) text.now tokens.now result }
 {
     let (first, rest) = param(alloc, attrs, registers, text, tokens)?;
     let mut front = ListOf::new(alloc);
@@ -184,16 +181,16 @@ fn some_params<'a>(
     text: &[u8],
     tokens: &'a [Token],
 ) -> Read<'a, ListOf<Param>>
-    ensures { Gives text.now (λ x. (x.0, lexes text.now x.1.now)) result (some_params_at version (lexes text.now tokens.now)) }
+    ensures { IsRead (some_params_at version) text.now tokens.now result }
 {
-    if begins_any_word(text, tokens) {
+    if begins_any_word(tokens) {
         params(alloc, Some(version), 0, text, tokens)
     } else {
         Ok((ListOf::new(alloc), tokens))
     }
 }
 
-/// The parameters of a function, behind its name.
+/// The parameters of a function, after its name.
 #[tactic(auto, unfolding(crate::specs::Blocks::function_params_at))]
 pub fn function_params<'a>(
     alloc: Global,
@@ -201,11 +198,11 @@ pub fn function_params<'a>(
     text: &[u8],
     tokens: &'a [Token],
 ) -> Read<'a, ListOf<Param>>
-    ensures { Gives text.now (λ x. (x.0, lexes text.now x.1.now)) result (function_params_at version (lexes text.now tokens.now)) }
+    ensures { IsRead (function_params_at version) text.now tokens.now result }
 {
-    let rest = take_mark(Mark::OpenRound, text, tokens)?;
+    let rest = take_mark(Mark::OpenRound, tokens)?;
     let (params, rest) = some_params(alloc, version, text, rest)?;
-    let rest = take_mark(Mark::CloseRound, text, rest)?;
+    let rest = take_mark(Mark::CloseRound, rest)?;
     Ok((params, rest))
 }
 
@@ -216,11 +213,11 @@ fn round_params<'a>(
     text: &[u8],
     tokens: &'a [Token],
 ) -> Read<'a, ListOf<Param>>
-    ensures { Gives text.now (λ x. (x.0, lexes text.now x.1.now)) result (round_params_at registers (lexes text.now tokens.now)) }
+    ensures { IsRead (round_params_at registers) text.now tokens.now result }
 {
-    let rest = take_mark(Mark::OpenRound, text, tokens)?;
+    let rest = take_mark(Mark::OpenRound, tokens)?;
     let (params, rest) = params(alloc, None, registers, text, rest)?;
-    let rest = take_mark(Mark::CloseRound, text, rest)?;
+    let rest = take_mark(Mark::CloseRound, rest)?;
     Ok((params, rest))
 }
 
@@ -230,9 +227,9 @@ fn block_params<'a>(
     text: &[u8],
     tokens: &'a [Token],
 ) -> Read<'a, ListOf<Param>>
-    ensures { Gives text.now (λ x. (x.0, lexes text.now x.1.now)) result (block_params_at registers (lexes text.now tokens.now)) }
+    ensures { IsRead (block_params_at registers) text.now tokens.now result }
 {
-    if begins_mark(Mark::OpenRound, text, tokens) {
+    if begins_mark(Mark::OpenRound, tokens) {
         round_params(alloc, registers, text, tokens)
     } else {
         Ok((ListOf::new(alloc), tokens))
@@ -247,9 +244,9 @@ pub fn head<'a>(
     text: &[u8],
     tokens: &'a [Token],
 ) -> Read<'a, ListOf<Param>>
-    ensures { Gives text.now (λ x. (x.0, lexes text.now x.1.now)) result (head_at registers (lexes text.now tokens.now)) }
+    ensures { IsRead (head_at registers) text.now tokens.now result }
 {
     let (params, rest) = block_params(alloc, registers, text, tokens)?;
-    let rest = take_mark(Mark::Colon, text, rest)?;
+    let rest = take_mark(Mark::Colon, rest)?;
     Ok((params, rest))
 }

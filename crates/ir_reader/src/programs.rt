@@ -4,7 +4,7 @@ ghost use Rattle.std.specs.List.{sum_by};
 ghost use Rattle.phrase.specs.Reading.{one};
 ghost use Rattle.phrase.specs.Whole.{all_of};
 ghost use Rattle.ir_ast.specs.Lines.{most_functions, most_registers, block_instructions};
-ghost use Rattle.ir_reader.specs.View.{lexes, Gives, begins, with_front};
+ghost use Rattle.ir_reader.specs.View.{lexes, IsRead, IsReadCounted, IsTaken, begins, onto};
 ghost use Rattle.ir_reader.specs.Told.{GivesAll};
 ghost use Rattle.ir_reader.specs.Wants.{begins_if, is_word};
 ghost use Rattle.ir_reader.specs.Blocks.{want_version, func_at, function_at, more_functions_at, functions_at, program_at};
@@ -15,13 +15,10 @@ use crate::numbers::number;
 use crate::params::{arrow_result, function_params};
 use crate::stop::{Read, Stop};
 use bsan_ids::ListOf;
-use ir_ast::{Function, Param};
+use ir_ast::{Function, MOST_FUNCTIONS, Param};
 use ir_text::{Token, TokenKind};
 use phrase::Cause;
 use std::alloc::Global;
-
-/// The most functions of a program.
-const MOST_FUNCTIONS: u32 = 256;
 
 /// Whether `func` is next.
 fn begins_func(text: &[u8], tokens: &[Token]) -> bool
@@ -36,10 +33,10 @@ fn begins_func(text: &[u8], tokens: &[Token]) -> bool
     }
 }
 
-/// Takes the `func` that begins a function, where so many functions stand before it.
+/// Takes the `func` that begins a function, after this many functions.
 #[tactic(auto, unfolding(crate::specs::Blocks::func_at))]
 fn func<'a>(functions: u32, text: &[u8], tokens: &'a [Token]) -> Result<&'a [Token], Stop<'a>>
-    ensures taken { Gives text.now (λ rest. (tt, lexes text.now rest.now)) result (func_at functions (lexes text.now tokens.now)) }
+    ensures taken { IsTaken (func_at functions) text.now tokens.now result }
     ensures within { IfOk result (λ _. functions < most_functions) }
 {
     let [first, rest @ ..] = tokens else {
@@ -65,8 +62,8 @@ fn registers_of(params: &ListOf<Param>) -> u32
     params.len() as u32
 }
 
-/// A function, where so many functions of the program and instructions stand before it, and how many instructions
-/// stand before the place behind it.
+/// A function, after this many functions and instructions of the program, and the number of the program's
+/// instructions up to its last.
 #[tactic(auto, unfolding(crate::specs::Blocks::function_at))]
 fn function<'a>(
     alloc: Global,
@@ -76,7 +73,7 @@ fn function<'a>(
     text: &[u8],
     tokens: &'a [Token],
 ) -> Read<'a, (Function, u32)>
-    ensures read { Gives text.now (λ x. (x.0.0, lexes text.now x.1.now)) result (function_at version (functions, instructions) (lexes text.now tokens.now)) }
+    ensures read { IsReadCounted (function_at version (functions, instructions)) text.now tokens.now result }
     ensures behind { IfOk result (λ x. x.0.1 ≡ instructions + sum_by block_instructions x.0.0.blocks) }
     ensures within { IfOk result (λ _. functions < most_functions) }
 {
@@ -114,7 +111,7 @@ fn more_functions<'a>(
     text: &[u8],
     tokens: &'a [Token],
 ) -> Read<'a, ListOf<Function>>
-    ensures { Gives text.now (λ x. (x.0, lexes text.now x.1.now)) result (with_front front (more_functions_at version (functions, instructions) (lexes text.now tokens.now))) }
+    ensures { IsRead (onto front (more_functions_at version (functions, instructions))) text.now tokens.now result }
 {
     let mut found = front;
     let mut count = functions;
@@ -136,7 +133,7 @@ fn functions<'a>(
     text: &[u8],
     tokens: &'a [Token],
 ) -> Read<'a, ListOf<Function>>
-    ensures { Gives text.now (λ x. (x.0, lexes text.now x.1.now)) result (functions_at version (lexes text.now tokens.now)) }
+    ensures { IsRead (functions_at version) text.now tokens.now result }
 {
     let ((first, behind), rest) = function(alloc, version, 0, 0, text, tokens)?;
     let mut front = ListOf::new(alloc);
@@ -146,7 +143,7 @@ fn functions<'a>(
 
 /// The number of a version, which is 1 or 2.
 fn version<'a>(text: &[u8], tokens: &'a [Token]) -> Read<'a, u8>
-    ensures { Gives text.now (λ x. (x.0, lexes text.now x.1.now)) result (one want_version (lexes text.now tokens.now)) }
+    ensures { IsRead (one want_version) text.now tokens.now result }
 {
     let [first, rest @ ..] = tokens else {
         return Err(Stop::At(Cause::Unexpected, tokens));
@@ -161,10 +158,10 @@ fn version<'a>(text: &[u8], tokens: &'a [Token]) -> Read<'a, u8>
     }
 }
 
-/// The version of a program, behind `bir`, and its functions.
+/// The version of a program, after `bir`, and its functions.
 #[tactic(auto, unfolding(crate::specs::Blocks::program_at))]
 fn program<'a>(alloc: Global, text: &[u8], tokens: &'a [Token]) -> Read<'a, (u8, ListOf<Function>)>
-    ensures { Gives text.now (λ x. (x.0, lexes text.now x.1.now)) result (program_at (lexes text.now tokens.now)) }
+    ensures { IsRead program_at text.now tokens.now result }
 {
     let rest = word(b"bir".as_slice(), text, tokens)?;
     let (version, rest) = version(text, rest)?;

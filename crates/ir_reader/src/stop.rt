@@ -6,7 +6,7 @@ use bsan_ids::NoMemory;
 use ir_text::Token;
 use phrase::Cause;
 
-/// Why reading stopped: want of memory, or a cause and the tokens from the refused one on.
+/// Why reading stopped: out of memory, or a cause and the tokens from the refused one on.
 #[derive(Drop)]
 pub enum Stop<'a> {
     Memory,

@@ -1,28 +1,26 @@
 //! Reading a text as a program.
-ghost use Rattle.std.specs.Prelude.{◌≡◌, ◌≤◌, ◌-◌, false, length, take, Ok, IfOk, IfErr};
+ghost use Rattle.std.specs.Prelude.{◌≡◌, ◌≤◌, ◌-◌, false, length, take, Ok, IfOk, IfErr, ℕ, List};
+ghost use Rattle.ir_text.specs.Bytes.{most_bytes};
 ghost use Rattle.ir_text.specs.Lexed.{Lexed, good};
 ghost use Rattle.ir_ast.specs.Programs.{IsProgram, KeepsLimits};
 ghost use Rattle.ir_ast.specs.declared.program.Program.{Program};
 ghost use Rattle.ir_reader.specs.View.{lexes};
-ghost use Rattle.ir_reader.specs.Readings.{most_bytes, place_of, IsProgramOf, IsRefusal, AnswersUnlessMemory};
+ghost use Rattle.ir_reader.specs.Readings.{place_of, IsProgramOf, IsRefusal, AnswersUnlessMemory};
 ghost use Rattle.ir_reader.specs.Told.{ends_equal, next_int_to_ptr, front_of, fault_at};
 
 use crate::fault::ReadFault;
 use crate::leaves::bytes_of;
-use crate::marks::{Mark, kind_is};
+use crate::marks::kind_is;
 use crate::programs::whole;
 use crate::stop::Stop;
-use ir_ast::Program;
-use ir_text::{LexFault, Token, TokenKind, tokens};
+use ir_ast::{Mark, Program};
+use ir_text::{LexFault, MOST_BYTES, Token, TokenKind, tokens};
 use phrase::Cause;
 use std::alloc::Global;
 
-/// The most bytes of a text.
-const MOST_BYTES: usize = 1_048_576;
-
 /// Whether the last token is `=`.
-fn ends_equal(text: &[u8], tokens: &[Token]) -> bool
-    ensures { result ≡ ends_equal false (lexes text.now tokens.now) }
+fn ends_equal(tokens: &[Token]) -> bool
+    ensures { (text : List ℕ) → result ≡ ends_equal false (lexes text tokens.now) }
 {
     match tokens {
         [.., last] => kind_is(Mark::Equals, last.kind),
@@ -44,8 +42,8 @@ fn next_int_to_ptr(text: &[u8], tokens: &[Token]) -> bool
 }
 
 /// The place of the first token, or the end of the text.
-fn place_of(end: u32, text: &[u8], tokens: &[Token]) -> u32
-    ensures { result ≡ place_of end (lexes text.now tokens.now) }
+fn place_of(end: u32, tokens: &[Token]) -> u32
+    ensures { (text : List ℕ) → result ≡ place_of end (lexes text tokens.now) }
 {
     match tokens {
         [first, ..] => first.span.start,
@@ -53,14 +51,14 @@ fn place_of(end: u32, text: &[u8], tokens: &[Token]) -> u32
     }
 }
 
-/// The refusal at the first token of the rest, behind the front.
+/// The refusal at the first token of the rest, after the front.
 fn fault_at(end: u32, text: &[u8], front: &[Token], cause: Cause, rest: &[Token]) -> ReadFault
     ensures { result ≡ fault_at end (lexes text.now front.now) cause (lexes text.now rest.now) }
 {
-    let at = place_of(end, text, rest);
+    let at = place_of(end, rest);
     match cause {
         Cause::Unexpected => {
-            if ends_equal(text, front) && next_int_to_ptr(text, rest) {
+            if ends_equal(front) && next_int_to_ptr(text, rest) {
                 ReadFault::IntToPtr { at }
             } else {
                 ReadFault::Unexpected { at }
@@ -104,7 +102,7 @@ fn read_tokens(alloc: Global, text: &[u8], tokens: &[Token]) -> Result<Program, 
 ///
 /// # Errors
 ///
-/// `ReadFault` by its cause and place; `NoMemory` where memory is wanting, of which nothing is said.
+/// `ReadFault` by its cause and place; `NoMemory`: out of memory.
 pub fn read(alloc: Global, text: &[u8]) -> Result<Program, ReadFault>
     ensures program { IfOk result (λ p. IsProgramOf text.now p) }
     ensures is_program { IfOk result (λ p. IsProgram p) }

@@ -1,30 +1,30 @@
 //! Values with their types, lists of them, and goals.
 ghost use Rattle.std.specs.Prelude.{◌≡◌};
-ghost use Rattle.ir_reader.specs.View.{lexes, Gives, with_front};
+ghost use Rattle.ir_reader.specs.View.{IsRead, onto};
 ghost use Rattle.ir_reader.specs.Parts.{typed_at, next_typed_at, more_at, values_at, some_values_at, round_at, args_at, goal_args_at, goal_at};
 
-use crate::leaves::{begins_any_word, label, ty, val};
-use crate::marks::{Mark, begins_mark, take_mark};
+use crate::leaves::{among, begins_any_word, label, val};
+use crate::marks::{begins_mark, take_mark};
 use crate::stop::{Read, Stop};
 use bsan_ids::ListOf;
-use ir_ast::{Goal, TypedVal};
+use ir_ast::{Goal, Mark, Ty, TypedVal};
 use ir_text::Token;
 use std::alloc::Global;
 
 #[tactic(auto, unfolding(crate::specs::Parts::typed_at))]
 fn typed_val<'a>(alloc: Global, text: &[u8], tokens: &'a [Token]) -> Read<'a, TypedVal>
-    ensures { Gives text.now (λ x. (x.0, lexes text.now x.1.now)) result (typed_at (lexes text.now tokens.now)) }
+    ensures { IsRead typed_at text.now tokens.now result }
 {
-    let (ty, rest) = ty(text, tokens)?;
+    let (ty, rest) = among::<Ty>(text, tokens)?;
     let (val, rest) = val(alloc, ty, text, rest)?;
     Ok((TypedVal { ty, val }, rest))
 }
 
 #[tactic(auto, unfolding(crate::specs::Parts::next_typed_at))]
 fn next_typed_val<'a>(alloc: Global, text: &[u8], tokens: &'a [Token]) -> Read<'a, TypedVal>
-    ensures { Gives text.now (λ x. (x.0, lexes text.now x.1.now)) result (next_typed_at (lexes text.now tokens.now)) }
+    ensures { IsRead next_typed_at text.now tokens.now result }
 {
-    let rest = take_mark(Mark::Comma, text, tokens)?;
+    let rest = take_mark(Mark::Comma, tokens)?;
     typed_val(alloc, text, rest)
 }
 
@@ -35,11 +35,11 @@ fn more<'a>(
     text: &[u8],
     tokens: &'a [Token],
 ) -> Read<'a, ListOf<TypedVal>>
-    ensures { Gives text.now (λ x. (x.0, lexes text.now x.1.now)) result (with_front front (more_at (lexes text.now tokens.now))) }
+    ensures { IsRead (onto front more_at) text.now tokens.now result }
 {
     let mut values = front;
     let mut rest = tokens;
-    while begins_mark(Mark::Comma, text, rest) {
+    while begins_mark(Mark::Comma, rest) {
         let (value, after) = next_typed_val(alloc, text, rest)?;
         values.push(value)?;
         rest = after;
@@ -48,7 +48,7 @@ fn more<'a>(
 }
 
 fn values<'a>(alloc: Global, text: &[u8], tokens: &'a [Token]) -> Read<'a, ListOf<TypedVal>>
-    ensures { Gives text.now (λ x. (x.0, lexes text.now x.1.now)) result (values_at (lexes text.now tokens.now)) }
+    ensures { IsRead values_at text.now tokens.now result }
 {
     let (first, rest) = typed_val(alloc, text, tokens)?;
     let mut front = ListOf::new(alloc);
@@ -57,9 +57,9 @@ fn values<'a>(alloc: Global, text: &[u8], tokens: &'a [Token]) -> Read<'a, ListO
 }
 
 fn some_values<'a>(alloc: Global, text: &[u8], tokens: &'a [Token]) -> Read<'a, ListOf<TypedVal>>
-    ensures { Gives text.now (λ x. (x.0, lexes text.now x.1.now)) result (some_values_at (lexes text.now tokens.now)) }
+    ensures { IsRead some_values_at text.now tokens.now result }
 {
-    if begins_any_word(text, tokens) {
+    if begins_any_word(tokens) {
         values(alloc, text, tokens)
     } else {
         Ok((ListOf::new(alloc), tokens))
@@ -69,38 +69,38 @@ fn some_values<'a>(alloc: Global, text: &[u8], tokens: &'a [Token]) -> Read<'a, 
 /// The arguments of a call.
 #[tactic(auto, unfolding(crate::specs::Parts::args_at))]
 pub fn args<'a>(alloc: Global, text: &[u8], tokens: &'a [Token]) -> Read<'a, ListOf<TypedVal>>
-    ensures { Gives text.now (λ x. (x.0, lexes text.now x.1.now)) result (args_at (lexes text.now tokens.now)) }
+    ensures { IsRead args_at text.now tokens.now result }
 {
-    let rest = take_mark(Mark::OpenRound, text, tokens)?;
+    let rest = take_mark(Mark::OpenRound, tokens)?;
     let (values, rest) = some_values(alloc, text, rest)?;
-    let rest = take_mark(Mark::CloseRound, text, rest)?;
+    let rest = take_mark(Mark::CloseRound, rest)?;
     Ok((values, rest))
 }
 
 #[tactic(auto, unfolding(crate::specs::Parts::round_at))]
 fn round<'a>(alloc: Global, text: &[u8], tokens: &'a [Token]) -> Read<'a, ListOf<TypedVal>>
-    ensures { Gives text.now (λ x. (x.0, lexes text.now x.1.now)) result (round_at (lexes text.now tokens.now)) }
+    ensures { IsRead round_at text.now tokens.now result }
 {
-    let rest = take_mark(Mark::OpenRound, text, tokens)?;
+    let rest = take_mark(Mark::OpenRound, tokens)?;
     let (values, rest) = values(alloc, text, rest)?;
-    let rest = take_mark(Mark::CloseRound, text, rest)?;
+    let rest = take_mark(Mark::CloseRound, rest)?;
     Ok((values, rest))
 }
 
 fn goal_args<'a>(alloc: Global, text: &[u8], tokens: &'a [Token]) -> Read<'a, ListOf<TypedVal>>
-    ensures { Gives text.now (λ x. (x.0, lexes text.now x.1.now)) result (goal_args_at (lexes text.now tokens.now)) }
+    ensures { IsRead goal_args_at text.now tokens.now result }
 {
-    if begins_mark(Mark::OpenRound, text, tokens) {
+    if begins_mark(Mark::OpenRound, tokens) {
         round(alloc, text, tokens)
     } else {
         Ok((ListOf::new(alloc), tokens))
     }
 }
 
-/// Where a jump goes, and what it hands over.
+/// Where a jump goes, and its arguments.
 #[tactic(auto, unfolding(crate::specs::Parts::goal_at))]
 pub fn goal<'a>(alloc: Global, text: &[u8], tokens: &'a [Token]) -> Read<'a, Goal>
-    ensures { Gives text.now (λ x. (x.0, lexes text.now x.1.now)) result (goal_at (lexes text.now tokens.now)) }
+    ensures { IsRead goal_at text.now tokens.now result }
 {
     let (label, rest) = label(alloc, text, tokens)?;
     let (args, rest) = goal_args(alloc, text, rest)?;

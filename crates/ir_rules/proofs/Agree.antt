@@ -1,6 +1,7 @@
--- Each test tells what the rules ask.
+-- Each test decides what its rule asks.
 use Rattle.std.proofs.Common.{◌≡◌, ℕ, zero, suc, Bool, true, false, cond, ◌&&◌, nat_eq, List, [], ◌∷◌, length, Option, Some, None, refl, sym, ap, subst, ◌∙◌, arith}
 use Rattle.std.specs.Prelude.{Decides, slice_get, codes}
+use Rattle.std.specs.Option.{option_map}
 use Rattle.std.specs.Str.{bytes_eq}
 use Rattle.std.specs.Cmp.Lexicographic.{bytes_decides}
 use Rattle.std.proofs.lemmas.Bool.{eqb-true, eq-eqb, ne_eqb, ltb-true, lt-ltb}
@@ -17,15 +18,13 @@ use Rattle.ir_ast.specs.declared.program.Goal.{Goal}
 use Rattle.ir_ast.specs.declared.program.Block.{Block}
 use Rattle.ir_ast.specs.declared.program.Function.{Function}
 use Rattle.ir_ast.specs.declared.hosts.HostEntry.{HostEntry}
-use Rattle.ir_rules.specs.Paths.{first_named, place_named, option_suc, block_place}
+use Rattle.ir_rules.specs.Paths.{first_named, place_named, label_place}
 use Rattle.ir_ast.specs.Words.{bits}
 use Rattle.ir_rules.specs.Rules.{function_named, block_named, param_types, arg_types, IsConversion, IsHostType, IsFirstBlock, CallFits, SpawnFits, HostFits, GoalFits, HasMain}
-use Rattle.ir_rules.specs.Walk.{ty_number}
-use Rattle.ir_rules.proofs.Uses.{same_ty as same_by_number}
-use Rattle.ir_rules.specs.Checks.{same_ty, same_types, same_result, takes, call_fits, spawn_fits, is_host_type, all_host_types, host_fits, is_conversion, takes_at, fits_at, goal_fits, is_main}
-
-pub ty_decides : (t u : Ty) → Decides (same_ty t u) (t ≡ u)
-ty_decides t u = (λ e. same_by_number t u (eqb-true (ty_number t) (ty_number u) e), λ e. eq-eqb (ty_number t) (ty_number u) (ap ty_number e))
+use Rattle.ir_rules.specs.Walk.{same_ty}
+use Rattle.ir_rules.proofs.Places.{place_next}
+use Rattle.ir_rules.proofs.Uses.{ty_decides}
+use Rattle.ir_rules.specs.Checks.{same_types, same_result, takes, call_fits, spawn_fits, is_host_type, all_host_types, host_fits, is_conversion, takes_at, fits_at, goal_fits, is_main}
 
 pair_decides : (t u : Ty) (ts us : List Ty) (b : Bool) → Decides b (t ≡ u) → Decides (same_types ts us) (ts ≡ us) → Decides (cond b (same_types ts us) false) ((let z : List Ty = t ∷ ts in z) ≡ u ∷ us)
 pair_decides t u ts us true one more = (λ e. ap (λ (z : Ty). z ∷ ts) (one.0 refl) ∙ ap (λ (z : List Ty). u ∷ z) (more.0 e), λ e. more.1 cc)
@@ -82,35 +81,35 @@ abbrev pub at_place : {A : Type 0} → List A → Option ℕ → Option A
 at_place xs None = None
 at_place xs (Some n) = slice_get xs n
 
-at_next : {A : Type 0} (x : A) (xs : List A) (o : Option ℕ) → at_place (x ∷ xs) (option_suc o) ≡ at_place xs o
+at_next : {A : Type 0} (x : A) (xs : List A) (o : Option ℕ) → at_place (x ∷ xs) (option_map suc o) ≡ at_place xs o
 at_next x xs None = refl
 at_next x xs (Some n) = refl
 
-named_pick : {A : Type 0} (x : A) (xs : List A) (b : Bool) (first : Option A) (place : Option ℕ) → first ≡ at_place xs place → cond b (Some x) first ≡ at_place (x ∷ xs) (cond b (Some 0) (option_suc place))
+named_pick : {A : Type 0} (x : A) (xs : List A) (b : Bool) (first : Option A) (place : Option ℕ) → first ≡ at_place xs place → cond b (Some x) first ≡ at_place (x ∷ xs) (cond b (Some 0) (option_map suc place))
 named_pick x xs true first place e = refl
 named_pick x xs false first place e = e ∙ sym (at_next x xs place)
 
 pub named_at : {A : Type 0} (named : A → List ℕ) (xs : List A) (q : List ℕ) → first_named named xs q ≡ at_place xs (place_named named xs q)
 named_at named [] q = refl
-named_at named (x ∷ xs) q = named_pick x xs (bytes_eq q (named x)) (first_named named xs q) (place_named named xs q) (named_at named xs q)
+named_at named (x ∷ xs) q = named_pick x xs (bytes_eq q (named x)) (first_named named xs q) (place_named named xs q) (named_at named xs q) ∙ ap (at_place (x ∷ xs)) (sym (place_next named x xs q))
 
-never_zero : (o : Option ℕ) → option_suc o ≡ Some 0 → ⊥
+never_zero : (o : Option ℕ) → option_map suc o ≡ Some 0 → ⊥
 never_zero None e = absurd cc
 never_zero (Some n) e = absurd cc
 
-pub first_place : (blocks : List Block) (label : List ℕ) → IsFirstBlock blocks label → block_place blocks label ≡ Some 0
+pub first_place : (blocks : List Block) (label : List ℕ) → IsFirstBlock blocks label → label_place blocks label ≡ Some 0
 first_place [] label h = absurd h
-first_place (b ∷ blocks) label h = ap (λ (z : Bool). cond z (Some 0) (option_suc (block_place blocks label))) ((bytes_decides label b.label.name).1 h)
+first_place (b ∷ blocks) label h = place_next (λ (z : Block). z.label.name) b blocks label ∙ ap (λ (z : Bool). cond z (Some 0) (option_map suc (label_place blocks label))) ((bytes_decides label b.label.name).1 h)
 
-place_first : (blocks : List Block) (label : List ℕ) → block_place blocks label ≡ Some 0 → IsFirstBlock blocks label
+place_first : (blocks : List Block) (label : List ℕ) → label_place blocks label ≡ Some 0 → IsFirstBlock blocks label
 place_first [] label e = absurd cc
-place_first (b ∷ blocks) label e = by (bytes_eq label b.label.name) refl e
+place_first (b ∷ blocks) label e = by (bytes_eq label b.label.name) refl (sym (place_next (λ (z : Block). z.label.name) b blocks label) ∙ e)
   where
-    by : (t : Bool) → bytes_eq label b.label.name ≡ t → cond t (Some 0) (option_suc (block_place blocks label)) ≡ Some 0 → label ≡ b.label.name
+    by : (t : Bool) → bytes_eq label b.label.name ≡ t → cond t (Some 0) (option_map suc (label_place blocks label)) ≡ Some 0 → label ≡ b.label.name
     by true same h = (bytes_decides label b.label.name).0 same
-    by false same h = absurd (never_zero (block_place blocks label) h)
+    by false same h = absurd (never_zero (label_place blocks label) h)
 
-goal_by : (blocks : List Block) (g : Goal) (place : Option ℕ) → block_place blocks g.label.name ≡ place → block_named blocks g.label.name ≡ at_place blocks place → Decides (fits_at blocks place g.args) (GoalFits blocks g)
+goal_by : (blocks : List Block) (g : Goal) (place : Option ℕ) → label_place blocks g.label.name ≡ place → block_named blocks g.label.name ≡ at_place blocks place → Decides (fits_at blocks place g.args) (GoalFits blocks g)
 goal_by blocks g None e found = (λ t. absurd cc, λ fits. let z : (let o : Option Block = None in o) ≡ Some fits.0 = sym found ∙ fits.1 in absurd cc)
 goal_by blocks g (Some zero) e found = (λ t. absurd cc, λ fits. absurd (fits.3 (place_first blocks g.label.name e)))
 goal_by blocks g (Some (suc n)) e found = Decides-at (fits_at blocks (Some (suc n)) g.args) (takes_at (slice_get blocks (suc n)) g.args) later (by (slice_get blocks (suc n)) found)
@@ -128,7 +127,7 @@ goal_by blocks g (Some (suc n)) e found = Decides-at (fits_at blocks (Some (suc 
         (λ t. (b, is, d.0 t, not_first), λ fits. d.1 (let z : (let o : Option Block = Some b in o) ≡ Some fits.0 = sym is ∙ fits.1 in let same : b ≡ fits.0 = cc in ap (λ (z : Block). param_types z.params) same ∙ fits.2))
 
 pub goal_decides : (blocks : List Block) (g : Goal) → Decides (goal_fits blocks g) (GoalFits blocks g)
-goal_decides blocks g = goal_by blocks g (block_place blocks g.label.name) refl (named_at (λ b. b.label.name) blocks g.label.name)
+goal_decides blocks g = goal_by blocks g (label_place blocks g.label.name) refl (named_at (λ b. b.label.name) blocks g.label.name)
 
 pub empty_decides : {A : Type 0} (xs : List A) → Decides (nat_eq (length xs) 0) (xs ≡ [])
 empty_decides [] = (λ e. refl, λ e. refl)

@@ -1,10 +1,8 @@
 -- The first of the faults so far.
-use Rattle.std.proofs.Common.{◌≡◌, ℕ, suc, ◌+◌, ◌<◌, ◌⊎◌, inl, inr, Bool, true, false, cond, List, [], ◌∷◌, ◌++◌, length, take, get_or, Option, Some, None, refl, sym, ap, subst, ◌∙◌, arith}
-use Rattle.std.proofs.Math.Seq.{take-suc}
+use Rattle.std.proofs.Common.{◌≡◌, ◌⊎◌, inl, inr, Bool, true, false, cond, Option, Some, None, refl, ap, ◌∙◌, arith}
 use Rattle.std.proofs.lemmas.Bool.{cases_lt}
 use Rattle.ir_rules.specs.declared.rule.Fault.{Fault}
 use Rattle.ir_rules.specs.Least.{rank, is_before, lesser, NotAfter, IsLeast}
-use Rattle.ir_rules.specs.Walk.{Told}
 
 after-trans : (x y z : Fault) → NotAfter x y → NotAfter y z → NotAfter x z
 after-trans x y z (inl a) (inl b) = inl (omega (arith, a, b))
@@ -57,30 +55,6 @@ least-same S T (Some x) to back s = (to x s.0, λ z h. s.1 z (back z h))
 same-some : (x y : Fault) → (let o : Option Fault = Some x in o) ≡ Some y → x ≡ y
 same-some x y e = cc
 
-least-one : (o : Option Fault) → IsLeast (λ x. o ≡ Some x) o
+pub least-one : (o : Option Fault) → IsLeast (λ x. o ≡ Some x) o
 least-one None = λ x e. absurd cc
 least-one (Some y) = (refl, λ x e. same-after y x (same-some y x e))
-
-told-join : {A : Type 0} (f : A → Option Fault) (xs : List A) (e : A) (x : Fault) → Told f (xs ++ e ∷ []) x → Told f xs x ⊎ (f e ≡ Some x)
-told-join f [] e x (inl h) = inr h
-told-join f [] e x (inr h) = absurd h
-told-join f (y ∷ xs) e x (inl h) = inl (inl h)
-told-join f (y ∷ xs) e x (inr h) = elim (told-join f xs e x h) [ inl k ↦ inl (inr k) | inr k ↦ inr k ]
-
-join-told : {A : Type 0} (f : A → Option Fault) (xs : List A) (e : A) (x : Fault) → Told f xs x ⊎ (f e ≡ Some x) → Told f (xs ++ e ∷ []) x
-join-told f [] e x (inl h) = absurd h
-join-told f [] e x (inr h) = inl h
-join-told f (y ∷ xs) e x (inl (inl h)) = inl h
-join-told f (y ∷ xs) e x (inl (inr h)) = inr (join-told f xs e x (inl h))
-join-told f (y ∷ xs) e x (inr h) = inr (join-told f xs e x (inr h))
-
--- one more item of the list that a loop goes along
-pub told-next : {A : Type 0} (f : A → Option Fault) (xs : List A) (i : ℕ) (d : A) (best : Option Fault) → i < length xs → IsLeast (Told f (take i xs)) best
-    → IsLeast (Told f (take (i + 1) xs)) (lesser best (f (get_or xs i d)))
-told-next f xs i d best lt so_far =
-    let one : i + 1 ≡ suc i = omega arith in
-    let e : _ = get_or xs i d in
-    let more : take (i + 1) xs ≡ take i xs ++ e ∷ [] = ap (λ (n : ℕ). take n xs) one ∙ take-suc xs i d lt in
-    subst (λ (z : List _). IsLeast (Told f z) (lesser best (f e))) (sym more)
-    (least-same (λ x. Told f (take i xs) x ⊎ (f e ≡ Some x)) (Told f (take i xs ++ e ∷ [])) (lesser best (f e)) (join-told f (take i xs) e) (told-join f (take i xs) e)
-    (least-or (Told f (take i xs)) (λ x. f e ≡ Some x) best (f e) so_far (least-one (f e))))

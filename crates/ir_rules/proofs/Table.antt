@@ -1,9 +1,8 @@
 -- What a register holds, as the events come.
-use Rattle.std.proofs.Common.{◌≡◌, ℕ, suc, ◌+◌, ◌<◌, Bool, true, false, cond, List, [], ◌∷◌, ◌++◌, length, take, get_or, Option, Some, None, refl, sym, ap, subst, ◌∙◌, arith, bytes_eq}
+use Rattle.std.proofs.Common.{◌≡◌, ℕ, suc, ◌+◌, ◌<◌, Bool, true, false, cond, List, [], ◌∷◌, ◌++◌, length, take, get_or, Option, Some, None, refl, sym, ap, ◌∙◌, arith, bytes_eq}
 use Rattle.std.proofs.Math.Seq.{take-suc}
 use Rattle.std.proofs.lemmas.List.{map-append}
-use Rattle.std.specs.Option.{is_some, option_map}
-use Rattle.std.specs.Cmp.Lexicographic.{bytes_decides, nat_list_eq_equiv}
+use Rattle.std.specs.Option.{option_map}
 use Rattle.ir_rules.specs.Occurrences.{Holds, Event}
 use Rattle.ir_rules.specs.Occurrences.Event.{defines, uses}
 use Rattle.ir_rules.specs.Rules.{held}
@@ -12,21 +11,21 @@ use Rattle.ir_rules.specs.declared.events.Role.TheVariants.{Defines, Uses}
 use Rattle.ir_rules.specs.declared.rule.Wanted.{Wanted}
 use Rattle.ir_rules.specs.declared.events.Held.{Held}
 use Rattle.ir_rules.specs.declared.events.Occurrence.{Occurrence}
-use Rattle.ir_rules.specs.Walk.{or_held}
+use Rattle.ir_rules.specs.Walk.{or_first}
 
 -- what one more event changes
 abbrev pub held_after : Option Holds → Event → List ℕ → Option Holds
-held_after o (defines d h) q = or_held o (bytes_eq q d.name) h
+held_after o (defines d h) q = or_first o (bytes_eq q d.name) h
 held_after o (uses u) q = o
 
-held_pick : (b c : Bool) (h k : Holds) (o : Option Holds) (o' : Option Holds) → o' ≡ or_held o c k → cond b (Some h) o' ≡ or_held (cond b (Some h) o) c k
+held_pick : (b c : Bool) (h k : Holds) (o : Option Holds) (o' : Option Holds) → o' ≡ or_first o c k → cond b (Some h) o' ≡ or_first (cond b (Some h) o) c k
 held_pick true c h k o o' e = refl
 held_pick false c h k o o' e = e
 
 held_pick_use : (b : Bool) (h : Holds) (o o' : Option Holds) → o' ≡ o → cond b (Some h) o' ≡ cond b (Some h) o
 held_pick_use b h o o' e = ap (cond b (Some h)) e
 
-held_one : (b : Bool) (h : Holds) → cond b (Some h) None ≡ or_held None b h
+held_one : (b : Bool) (h : Holds) → cond b (Some h) None ≡ or_first None b h
 held_one true h = refl
 held_one false h = refl
 
@@ -43,32 +42,18 @@ held_next os i d q lt =
     let more : take (i + 1) os ≡ take i os ++ get_or os i d ∷ [] = ap (λ (n : ℕ). take n os) one ∙ take-suc os i d lt in
     ap (λ (z : List Occurrence). held (seen z) q) more ∙ ap (λ (z : List Event). held z q) (map-append event_of (take i os) (get_or os i d ∷ [])) ∙ held_last (seen (take i os)) (event_of (get_or os i d)) q
 
--- ---- a definition put into the table, or not
-or_kept : (o : Option Held) (b : Bool) (k : Holds) → (b ≡ true → is_some o ≡ true) → option_map holds_of o ≡ or_held (option_map holds_of o) b k
-or_kept (Some h) b k f = refl
-or_kept None true k f = let e = f refl in absurd cc
-or_kept None false k f = refl
-
-pub defined_before : (m : List ℕ → Option Held) (name : List ℕ) (k : Holds) → is_some (m name) ≡ true → (q : List ℕ) → option_map holds_of (m q) ≡ or_held (option_map holds_of (m q)) (bytes_eq q name) k
-defined_before m name k is q = or_kept (m q) (bytes_eq q name) k (λ e. subst (λ (z : List ℕ). is_some (m z) ≡ true) (sym ((bytes_decides q name).0 e)) is)
-
-or_put : (o : Option Held) (b : Bool) (h : Held) → (b ≡ true → is_some o ≡ false) → option_map holds_of (cond b (Some h) o) ≡ or_held (option_map holds_of o) b (holds_of h)
-or_put (Some o) true h f = let e = f refl in absurd cc
-or_put (Some o) false h f = refl
-or_put None true h f = refl
-or_put None false h f = refl
-
-pub defined_now : (m m' : List ℕ → Option Held) (name : List ℕ) (h : Held) → is_some (m name) ≡ false → ((q : List ℕ) → m' q ≡ cond (bytes_eq name q) (Some h) (m q))
-    → (q : List ℕ) → option_map holds_of (m' q) ≡ or_held (option_map holds_of (m q)) (bytes_eq q name) (holds_of h)
-defined_now m m' name h none is q = ap (option_map holds_of) (is q ∙ ap (λ (b : Bool). cond b (Some h) (m q)) (nat_list_eq_equiv.symm name q))
-    ∙ or_put (m q) (bytes_eq q name) h (λ e. subst (λ (z : List ℕ). is_some (m z) ≡ false) (sym ((bytes_decides q name).0 e)) none)
+-- what is put into the table under a name that has nothing yet
+pub held_first : (o o' : Option Held) (b : Bool) (h : Held) → o' ≡ or_first o b h → option_map holds_of o' ≡ or_first (option_map holds_of o) b (holds_of h)
+held_first (Some k) o' b h e = ap (option_map holds_of) e
+held_first None o' true h e = ap (option_map holds_of) e
+held_first None o' false h e = ap (option_map holds_of) e
 
 pub step_defines : (os : List Occurrence) (i : ℕ) (d : Occurrence) (m m' : List ℕ → Option Holds) (h : Held) → i < length os → ((q : List ℕ) → m q ≡ held (seen (take i os)) q) → (get_or os i d).role ≡ Defines h
-    → ((q : List ℕ) → m' q ≡ or_held (m q) (bytes_eq q (get_or os i d).register.now.name) (holds_of h)) → (q : List ℕ) → m' q ≡ held (seen (take (i + 1) os)) q
+    → ((q : List ℕ) → m' q ≡ or_first (m q) (bytes_eq q (get_or os i d).register.now.name) (holds_of h)) → (q : List ℕ) → m' q ≡ held (seen (take (i + 1) os)) q
 step_defines os i d m m' h lt so_far is new q =
     let o = get_or os i d in
     let event : event_of o ≡ defines o.register.now (holds_of h) = ap (event_by o.register.now) is in
-    new q ∙ ap (λ (z : Option Holds). or_held z (bytes_eq q o.register.now.name) (holds_of h)) (so_far q)
+    new q ∙ ap (λ (z : Option Holds). or_first z (bytes_eq q o.register.now.name) (holds_of h)) (so_far q)
     ∙ sym (held_next os i d q lt ∙ ap (λ (z : Event). held_after (held (seen (take i os)) q) z q) event)
 
 pub step_uses : (os : List Occurrence) (i : ℕ) (d : Occurrence) (m : List ℕ → Option Holds) (w : Wanted) → i < length os → ((q : List ℕ) → m q ≡ held (seen (take i os)) q) → (get_or os i d).role ≡ Uses w

@@ -1,10 +1,10 @@
--- The faults that the walk tells of uses are the wrong uses.
-use Rattle.std.proofs.Common.{◌≡◌, ℕ, zero, suc, ◌<◌, ◌≤◌, ◌⊎◌, inl, inr, Bool, true, false, cond, nat_eq, List, [], ◌∷◌, length, map, take, Option, Some, None, refl, sym, ap, subst, ◌∙◌, arith}
-use Rattle.std.specs.Prelude.{Contains, slice_index_or}
+-- The faults that the walk finds are the wrong uses.
+use Rattle.std.proofs.Common.{◌≡◌, ℕ, ◌≤◌, inl, inr, Bool, true, false, cond, List, [], ◌∷◌, length, map, take, Option, Some, None, refl, sym, ap, subst, ◌∙◌}
+use Rattle.std.specs.Prelude.{Contains, Decides}
 use Rattle.std.specs.Option.{option_map}
-use Rattle.std.proofs.lemmas.List.Elements.{Contains-append_cases, Contains-append_right}
 use Rattle.ir_ast.specs.declared.types.Ty.{Ty}
 use Rattle.ir_ast.specs.declared.types.Ty.TheVariants.{Int, Ptr}
+use Rattle.ir_ast.specs.declared.types.Width.{Width}
 use Rattle.ir_ast.specs.declared.types.Width.TheVariants.{W8, W16, W32, W64}
 use Rattle.ir_rules.specs.declared.rule.Rule.{Rule}
 use Rattle.ir_rules.specs.declared.rule.Rule.TheVariants.{Unknown, Twice, TypeClash, Unassigned, BadTarget, BadCall, HandleUse, NoMain}
@@ -16,37 +16,45 @@ use Rattle.ir_rules.specs.Occurrences.Holds.{value, handle}
 use Rattle.ir_rules.specs.Occurrences.Event.{defines, uses}
 use Rattle.ir_rules.specs.Rules.{held, used, UseBreaks}
 use Rattle.ir_rules.specs.Least.{fault, IsLeast}
-use Rattle.ir_rules.specs.Walk.{ty_number, use_rule, event_fault, Told, WrongUse}
+use Rattle.ir_rules.specs.Walk.{same_width, same_ty, use_rule, event_fault, AnyGives, WrongUse}
+use Rattle.ir_rules.proofs.Any.{here, further, none_in, head_of, any-map, map-any, any-all}
 use Rattle.ir_rules.proofs.Least.{least-same}
 
-abbrev ty_of : ℕ → Ty
-ty_of zero = Int W8
-ty_of (suc zero) = Int W16
-ty_of (suc (suc zero)) = Int W32
-ty_of (suc (suc (suc zero))) = Int W64
-ty_of (suc (suc (suc (suc n)))) = Ptr
+pub width_decides : (v w : Width) → Decides (same_width v w) (v ≡ w)
+width_decides W8 W8 = (λ e. refl, λ e. refl)
+width_decides W8 W16 = (λ e. absurd cc, λ e. absurd cc)
+width_decides W8 W32 = (λ e. absurd cc, λ e. absurd cc)
+width_decides W8 W64 = (λ e. absurd cc, λ e. absurd cc)
+width_decides W16 W8 = (λ e. absurd cc, λ e. absurd cc)
+width_decides W16 W16 = (λ e. refl, λ e. refl)
+width_decides W16 W32 = (λ e. absurd cc, λ e. absurd cc)
+width_decides W16 W64 = (λ e. absurd cc, λ e. absurd cc)
+width_decides W32 W8 = (λ e. absurd cc, λ e. absurd cc)
+width_decides W32 W16 = (λ e. absurd cc, λ e. absurd cc)
+width_decides W32 W32 = (λ e. refl, λ e. refl)
+width_decides W32 W64 = (λ e. absurd cc, λ e. absurd cc)
+width_decides W64 W8 = (λ e. absurd cc, λ e. absurd cc)
+width_decides W64 W16 = (λ e. absurd cc, λ e. absurd cc)
+width_decides W64 W32 = (λ e. absurd cc, λ e. absurd cc)
+width_decides W64 W64 = (λ e. refl, λ e. refl)
 
-ty_back : (t : Ty) → ty_of (ty_number t) ≡ t
-ty_back (Int W8) = refl
-ty_back (Int W16) = refl
-ty_back (Int W32) = refl
-ty_back (Int W64) = refl
-ty_back Ptr = refl
+pub ty_decides : (t u : Ty) → Decides (same_ty t u) (t ≡ u)
+ty_decides (Int v) (Int w) = (λ e. ap (λ (z : Width). let t : Ty = Int z in t) ((width_decides v w).0 e), λ e. (width_decides v w).1 cc)
+ty_decides (Int v) Ptr = (λ e. absurd cc, λ e. absurd cc)
+ty_decides Ptr (Int w) = (λ e. absurd cc, λ e. absurd cc)
+ty_decides Ptr Ptr = (λ e. refl, λ e. refl)
 
-pub same_ty : (t u : Ty) → ty_number t ≡ ty_number u → t ≡ u
-same_ty t u e = sym (ty_back t) ∙ ap ty_of e ∙ ty_back u
-
-clash : (t u : Ty) (b : Bool) (r : Rule) → nat_eq (ty_number t) (ty_number u) ≡ b → cond b None (Some TypeClash) ≡ Some r → UseBreaks r (Some (value t)) (AValue u)
+clash : (t u : Ty) (b : Bool) (r : Rule) → same_ty t u ≡ b → cond b None (Some TypeClash) ≡ Some r → UseBreaks r (Some (value t)) (AValue u)
 clash t u true r e h = absurd cc
-clash t u false r e h = subst (λ (z : Rule). UseBreaks z (Some (value t)) (AValue u)) (let q : TypeClash ≡ r = cc in q) (λ s. let y : nat_eq (ty_number t) (ty_number u) ≡ true = grind (arith, ap ty_number s) in let z : true ≡ false = sym y ∙ e in absurd cc)
+clash t u false r e h = subst (λ (z : Rule). UseBreaks z (Some (value t)) (AValue u)) (let q : TypeClash ≡ r = cc in q) (λ s. let z : true ≡ false = sym ((ty_decides t u).1 s) ∙ e in absurd cc)
 
-is_clash : (t u : Ty) (b : Bool) → nat_eq (ty_number t) (ty_number u) ≡ b → (t ≡ u → ⊥) → cond b None (Some TypeClash) ≡ Some TypeClash
-is_clash t u true e n = absurd (n (same_ty t u (grind (arith, e))))
+is_clash : (t u : Ty) (b : Bool) → same_ty t u ≡ b → (t ≡ u → ⊥) → cond b None (Some TypeClash) ≡ Some TypeClash
+is_clash t u true e n = absurd (n ((ty_decides t u).0 e))
 is_clash t u false e n = refl
 
 pub rule_breaks : (h : Option Holds) (w : Wanted) (r : Rule) → use_rule h w ≡ Some r → UseBreaks r h w
 rule_breaks None w r e = subst (λ (z : Rule). UseBreaks z None w) (let q : Unknown ≡ r = cc in q) tt
-rule_breaks (Some (value t)) (AValue u) r e = clash t u (nat_eq (ty_number t) (ty_number u)) r refl e
+rule_breaks (Some (value t)) (AValue u) r e = clash t u (same_ty t u) r refl e
 rule_breaks (Some (handle f)) (AValue u) r e = subst (λ (z : Rule). UseBreaks z (Some (handle f)) (AValue u)) (let q : HandleUse ≡ r = cc in q) tt
 rule_breaks (Some (value t)) AHandle r e = subst (λ (z : Rule). UseBreaks z (Some (value t)) AHandle) (let q : HandleUse ≡ r = cc in q) tt
 rule_breaks (Some (handle f)) AHandle r e = absurd cc
@@ -58,7 +66,7 @@ breaks_rule Unknown (Some (handle f)) (AValue u) b = absurd b
 breaks_rule Unknown (Some (value t)) AHandle b = absurd b
 breaks_rule Unknown (Some (handle f)) AHandle b = absurd b
 breaks_rule TypeClash None w b = absurd b
-breaks_rule TypeClash (Some (value t)) (AValue u) b = is_clash t u (nat_eq (ty_number t) (ty_number u)) refl b
+breaks_rule TypeClash (Some (value t)) (AValue u) b = is_clash t u (same_ty t u) refl b
 breaks_rule TypeClash (Some (handle f)) (AValue u) b = absurd b
 breaks_rule TypeClash (Some (value t)) AHandle b = absurd b
 breaks_rule TypeClash (Some (handle f)) AHandle b = absurd b
@@ -84,58 +92,47 @@ mapped (Some r) at x e = let s : fault r at ≡ x = cc in (ap (λ (z : Fault). l
 mapped_back : (o : Option Rule) (at : ℕ) (x : Fault) → o ≡ Some x.rule → x.at ≡ at → option_map (λ r. fault r at) o ≡ Some x
 mapped_back o at x e s = ap (option_map (λ r. fault r at)) e ∙ ap (λ (n : ℕ). let o : Option Fault = Some (fault x.rule n) in o) (sym s)
 
-pub head_of : {A : Type 0} (x y : A) (xs : List A) → Contains (x ∷ xs) y → (x ≡ y) ⊎ Contains xs y
-head_of x y xs h = elim (Contains-append_cases (x ∷ []) xs y h) [
-  | inl one ↦ only one.0 one.1 one.2
-  | inr more ↦ inr more
+-- a use among the events
+used_has : (es : List Event) (u : Use) → Contains es (uses u) → Contains (used es) u
+used_has [] u there = absurd (none_in (uses u) there)
+used_has (defines d h ∷ es) u there = elim (head_of (defines d h) (uses u) es there) [
+  | inl same ↦ absurd cc
+  | inr more ↦ used_has es u more
 ]
-  where
-    only : (k : ℕ) → k < 1 → slice_index_or (x ∷ []) k y ≡ y → (x ≡ y) ⊎ Contains xs y
-    only zero lt e = inl e
-    only (suc k) lt e = absurd (omega (arith, lt))
-
-told_wrong : (look : List ℕ → Option Holds) (es : List Event) (x : Fault) → Told (event_fault look) es x → Wrong look es x
-told_wrong look [] x t = absurd t
-told_wrong look (defines d h ∷ es) x (inl e) = absurd cc
-told_wrong look (defines d h ∷ es) x (inr t) = told_wrong look es x t
-told_wrong look (uses u ∷ es) x (inl e) =
-    let m = mapped (use_rule (look u.reg.name) u.wanted) u.reg.at x e in
-    (u, (0, omega arith, refl), rule_breaks (look u.reg.name) u.wanted x.rule m.0, m.1)
-told_wrong look (uses u ∷ es) x (inr t) = let w = told_wrong look es x t in (w.0, Contains-append_right (u ∷ []) (used es) w.0 w.1, w.2, w.3)
-
-wrong_told : (look : List ℕ → Option Holds) (es : List Event) (x : Fault) (u : Use) → Contains (used es) u → UseBreaks x.rule (look u.reg.name) u.wanted → x.at ≡ u.reg.at → Told (event_fault look) es x
-wrong_told look [] x u there b at = absurd (omega (arith, there.1))
-wrong_told look (defines d h ∷ es) x u there b at = inr (wrong_told look es x u there b at)
-wrong_told look (uses v ∷ es) x u there b at = elim (head_of v u (used es) there) [
-  | inl same ↦ inl (subst (λ (z : Use). event_fault look (uses z) ≡ Some x) (sym same) (mapped_back (use_rule (look u.reg.name) u.wanted) u.reg.at x (breaks_rule x.rule (look u.reg.name) u.wanted b) at))
-  | inr more ↦ inr (wrong_told look es x u more b at)
+used_has (uses v ∷ es) u there = elim (head_of (uses v) (uses u) es there) [
+  | inl same ↦ let s : v ≡ u = cc in subst (λ (z : Use). Contains (v ∷ used es) z) s (here v (used es))
+  | inr more ↦ further v u (used es) (used_has es u more)
 ]
+
+has_used : (es : List Event) (u : Use) → Contains (used es) u → Contains es (uses u)
+has_used [] u there = absurd (none_in u there)
+has_used (defines d h ∷ es) u there = further (defines d h) (uses u) es (has_used es u there)
+has_used (uses v ∷ es) u there = elim (head_of v u (used es) there) [
+  | inl same ↦ subst (λ (z : Use). Contains (uses v ∷ es) (uses z)) same (here (uses v) es)
+  | inr more ↦ further (uses v) (uses u) es (has_used es u more)
+]
+
+told_event : (look : List ℕ → Option Holds) (es : List Event) (x : Fault) (e : Event) → Contains es e → event_fault look e ≡ Some x → Wrong look es x
+told_event look es x (defines d h) there is = absurd cc
+told_event look es x (uses u) there is =
+    let m = mapped (use_rule (look u.reg.name) u.wanted) u.reg.at x is in
+    (u, used_has es u there, rule_breaks (look u.reg.name) u.wanted x.rule m.0, m.1)
+
+told_wrong : (look : List ℕ → Option Holds) (es : List Event) (x : Fault) → AnyGives (event_fault look) es x → Wrong look es x
+told_wrong look es x t = told_event look es x t.0 t.1 t.2
+
+wrong_told : (look : List ℕ → Option Holds) (es : List Event) (x : Fault) → Wrong look es x → AnyGives (event_fault look) es x
+wrong_told look es x w = (uses w.0, has_used es w.0 w.1, mapped_back (use_rule (look w.0.reg.name) w.0.wanted) w.0.reg.at x (breaks_rule x.rule (look w.0.reg.name) w.0.wanted w.2) w.3)
 
 -- the walk looks registers up in a table that answers as the definitions do
-pub least_wrong : (look : List ℕ → Option Holds) (es : List Event) (o : Option Fault) → ((q : List ℕ) → look q ≡ held es q) → IsLeast (Told (event_fault look) es) o → IsLeast (WrongUse es) o
-least_wrong look es o same l = least-same (Told (event_fault look) es) (WrongUse es) o
+pub least_wrong : (look : List ℕ → Option Holds) (es : List Event) (o : Option Fault) → ((q : List ℕ) → look q ≡ held es q) → IsLeast (AnyGives (event_fault look) es) o → IsLeast (WrongUse es) o
+least_wrong look es o same l = least-same (AnyGives (event_fault look) es) (WrongUse es) o
     (λ x t. let w = told_wrong look es x t in (w.0, w.1, subst (λ (z : Option Holds). UseBreaks x.rule z w.0.wanted) (same w.0.reg.name) w.2, w.3))
-    (λ x w. wrong_told look es x w.0 w.1 (subst (λ (z : Option Holds). UseBreaks x.rule z w.0.wanted) (sym (same w.0.reg.name)) w.2) w.3) l
-
-told_map : {A B : Type 0} (g : A → B) (f : B → Option Fault) (xs : List A) (x : Fault) → Told (λ a. f (g a)) xs x → Told f (map g xs) x
-told_map g f [] x t = t
-told_map g f (a ∷ xs) x (inl e) = inl e
-told_map g f (a ∷ xs) x (inr t) = inr (told_map g f xs x t)
-
-map_told : {A B : Type 0} (g : A → B) (f : B → Option Fault) (xs : List A) (x : Fault) → Told f (map g xs) x → Told (λ a. f (g a)) xs x
-map_told g f [] x t = t
-map_told g f (a ∷ xs) x (inl e) = inl e
-map_told g f (a ∷ xs) x (inr t) = inr (map_told g f xs x t)
-
-pub take_whole : {A : Type 0} (xs : List A) (n : ℕ) → length xs ≤ n → take n xs ≡ xs
-take_whole [] zero le = refl
-take_whole [] (suc n) le = refl
-take_whole (x ∷ xs) zero le = absurd (omega (arith, le))
-take_whole (x ∷ xs) (suc n) le = ap (λ (z : List _). x ∷ z) (take_whole xs n (omega (arith, le)))
+    (λ x w. wrong_told look es x (w.0, w.1, subst (λ (z : Option Holds). UseBreaks x.rule z w.0.wanted) (sym (same w.0.reg.name)) w.2, w.3)) l
 
 -- at the loop's end
 pub least_at_end : {A : Type 0} (g : A → Event) (look : List ℕ → Option Holds) (xs : List A) (n : ℕ) (o : Option Fault) → length xs ≤ n → ((q : List ℕ) → look q ≡ held (map g xs) q)
-    → IsLeast (Told (λ a. event_fault look (g a)) (take n xs)) o → IsLeast (WrongUse (map g xs)) o
+    → IsLeast (AnyGives (λ a. event_fault look (g a)) (take n xs)) o → IsLeast (WrongUse (map g xs)) o
 least_at_end g look xs n o le same l = least_wrong look (map g xs) o same
-    (least-same (Told (λ a. event_fault look (g a)) xs) (Told (event_fault look) (map g xs)) o (told_map g (event_fault look) xs) (map_told g (event_fault look) xs)
-    (subst (λ (z : List _). IsLeast (Told (λ a. event_fault look (g a)) z) o) (take_whole xs n le) l))
+    (least-same (AnyGives (λ a. event_fault look (g a)) xs) (AnyGives (event_fault look) (map g xs)) o (any-map (λ e x. event_fault look e ≡ Some x) g xs) (map-any (λ e x. event_fault look e ≡ Some x) g xs)
+    (any-all (λ a x. event_fault look (g a) ≡ Some x) xs n o le l))

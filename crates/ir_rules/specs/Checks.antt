@@ -22,13 +22,10 @@ use Rattle.ir_rules.specs.declared.rule.Fault.{Fault}
 use Rattle.ir_rules.specs.Least.{fault}
 use Rattle.ir_rules.specs.Occurrences.{Holds}
 use Rattle.ir_rules.specs.Occurrences.Holds.{handle}
-use Rattle.ir_rules.specs.Paths.{block_place}
+use Rattle.ir_rules.specs.Paths.{label_place}
 use Rattle.ir_ast.specs.Words.{bits}
 use Rattle.ir_rules.specs.Rules.{function_named, host_named, param_types, arg_types, ret_type}
-use Rattle.ir_rules.specs.Walk.{ty_number}
-
-abbrev pub same_ty : Ty → Ty → Bool
-same_ty t u = nat_eq (ty_number t) (ty_number u)
+use Rattle.ir_rules.specs.Walk.{same_ty}
 
 abbrev pub same_types : List Ty → List Ty → Bool
 same_types [] [] = true
@@ -84,7 +81,7 @@ is_conversion Zext from to = nat_lt (bits from) (bits to)
 is_conversion Sext from to = nat_lt (bits from) (bits to)
 is_conversion Trunc from to = nat_lt (bits to) (bits from)
 
--- `look` tells what a register holds
+-- `look` says what a register holds
 abbrev pub op_fault : List Function → List HostEntry → (List ℕ → Option Holds) → Op → Option Fault
 op_fault fs hosts look (Call result f args) = name_fault (call_fits args result) (function_named fs f.name) f
 op_fault fs hosts look (Spawn f args) = name_fault (spawn_fits args) (function_named fs f.name) f
@@ -107,7 +104,7 @@ fits_at blocks None args = false
 fits_at blocks (Some place) args = if nat_eq place 0 then false else takes_at (slice_get blocks place) args
 
 abbrev pub goal_fits : List Block → Goal → Bool
-goal_fits blocks g = fits_at blocks (block_place blocks g.label.name) g.args
+goal_fits blocks g = fits_at blocks (label_place blocks g.label.name) g.args
 
 abbrev pub goal_fault : List Block → Goal → Option Fault
 goal_fault blocks g = unless (goal_fits blocks g) (fault BadTarget g.label.at)

@@ -1,6 +1,7 @@
 -- A use that a path of blocks reaches without a definition.
-use Rattle.std.specs.Prelude.{◌≡◌, ◌≢◌, ℕ, List, [], ◌∷◌, ◌++◌, map, slice_get, Option, Some, None, Contains, suc, if◌then◌else◌}
+use Rattle.std.specs.Prelude.{◌≡◌, ◌≢◌, ℕ, ◌<◌, nat_lt, List, [], ◌∷◌, ◌++◌, map, length, slice_get, Option, Some, None, Contains, if◌then◌else◌}
 use Rattle.std.specs.Str.{bytes_eq}
+use Rattle.ir_ast.specs.Numbers.{block_place, place}
 use Rattle.ir_ast.specs.declared.program.Block.{Block}
 use Rattle.ir_ast.specs.declared.program.Goal.{Goal}
 use Rattle.ir_ast.specs.declared.program.Function.{Function}
@@ -13,25 +14,26 @@ Avoids r [] = Unit {0}
 Avoids r (defines d h ∷ es) = (d.name ≢ r) × Avoids r es
 Avoids r (uses u ∷ es) = Avoids r es
 
--- the first of these that has the name, and its place in the list
+-- the first of these that has the name
 abbrev pub first_named : {A : Type 0} → (A → List ℕ) → List A → List ℕ → Option A
 first_named named [] q = None
 first_named named (x ∷ xs) q = if bytes_eq q (named x) then Some x else first_named named xs q
 
-abbrev pub option_suc : Option ℕ → Option ℕ
-option_suc None = None
-option_suc (Some n) = Some (suc n)
+-- the number, where it is less than the bound
+abbrev pub below : ℕ → ℕ → Option ℕ
+below bound n = if nat_lt n bound then Some n else None
 
+-- the place of the first that has the name, where one has it
 abbrev pub place_named : {A : Type 0} → (A → List ℕ) → List A → List ℕ → Option ℕ
-place_named named [] q = None
-place_named named (x ∷ xs) q = if bytes_eq q (named x) then Some 0 else option_suc (place_named named xs q)
+place_named named xs q = below (length xs) (place (map named xs) q)
 
--- the block that a label names is the first of that label
-abbrev pub block_place : List Block → List ℕ → Option ℕ
-block_place = place_named (λ b. b.label.name)
+-- the place of the first block of a label, where one has it
+abbrev pub label_place : List Block → List ℕ → Option ℕ
+label_place = place_named (λ b. b.label.name)
 
+-- a label stands for the first block that has it
 abbrev pub GoesTo : Function → ℕ → ℕ → Type 0
-GoesTo f b c = (block : Block) × (goal : Goal) × (slice_get f.blocks b ≡ Some block) × Contains (jump_goals block.term.jump) goal × (block_place f.blocks goal.label.name ≡ Some c)
+GoesTo f b c = (block : Block) × (goal : Goal) × (slice_get f.blocks b ≡ Some block) × Contains (jump_goals block.term.jump) goal × (block_place f.blocks goal.label.name ≡ c) × (c < length f.blocks)
 
 -- the whole block doesn't define the register
 abbrev pub AvoidsBlock : Function → List ℕ → ℕ → Type 0

@@ -10,7 +10,7 @@ use Rattle.ir_ast.specs.declared.program.Param.{Param}
 use Rattle.ir_ast.specs.declared.types.Ty.{Ty}
 use Rattle.ir_ast.specs.declared.types.Ty.TheVariants.{Int, Ptr}
 use Rattle.ir_ast.specs.declared.types.Width.{Width}
-use Rattle.ir_ast.specs.declared.types.Width.TheVariants.{W8, W16, W32, W64}
+use Rattle.ir_ast.specs.declared.types.Width.TheVariants.{W64}
 use Rattle.ir_ast.specs.declared.program.TypedVal.{TypedVal}
 use Rattle.ir_ast.specs.declared.program.Goal.{Goal}
 use Rattle.ir_ast.specs.declared.program.Block.{Block}

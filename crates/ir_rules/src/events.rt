@@ -6,8 +6,8 @@ ghost use Rattle.std.specs.List.{flat_map};
 ghost use Rattle.std.specs.Option.{option_map};
 ghost use Rattle.ir_rules.specs.Seen.{seen, event_of, holds_of, Adds, use_of};
 
-use ir_ast::{Block, Function, Goal, Inst, Jump, Named, Op, Param, Ty, TypedVal, Val, Width};
 use crate::rule::Wanted;
+use ir_ast::{Block, Function, Goal, Inst, Jump, Named, Op, Param, Ty, TypedVal, Val, Width};
 use std::alloc::{AllocError, Global};
 
 /// What a register holds: a value of this type, or the handle of a thread that runs the named function.

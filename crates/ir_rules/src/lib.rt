@@ -9,7 +9,7 @@ mod tables;
 mod verified;
 
 pub use events::{Held, Occurrence, Role, function_occurrences, note_block};
-pub use misuse::{ty_number, wrong_uses};
+pub use misuse::wrong_uses;
 pub use rule::{Fault, Rule, Wanted, lesser_fault};
-pub use tables::{first_places, look_up, registers};
+pub use tables::{function_places, host_places, label_places, look_up, registers};
 pub use verified::Verified;

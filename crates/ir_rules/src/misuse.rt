@@ -4,26 +4,12 @@ ghost use Rattle.std.specs.Option.{option_map};
 ghost use Rattle.ir_rules.specs.Seen.{seen, event_of, holds_of};
 ghost use Rattle.ir_rules.specs.Least.{IsLeast};
 ghost use Rattle.ir_rules.specs.Rules.{held};
-ghost use Rattle.ir_rules.specs.Walk.{held_in, ty_number, use_rule, event_fault, WrongUse};
+ghost use Rattle.ir_rules.specs.Walk.{held_in, use_rule, event_fault, WrongUse};
 
 use crate::events::{Held, Occurrence, Role};
-use crate::tables::look_up;
-use ir_ast::{Ty, Width};
 use crate::rule::{Fault, Rule, Wanted, lesser_fault};
+use crate::tables::look_up;
 use std::collections::BTreeMap;
-
-/// A number for each type.
-pub fn ty_number(ty: Ty) -> u8
-    ensures { result ≡ ty_number ty }
-{
-    match ty {
-        Ty::Int(Width::W8) => 0,
-        Ty::Int(Width::W16) => 1,
-        Ty::Int(Width::W32) => 2,
-        Ty::Int(Width::W64) => 3,
-        Ty::Ptr => 4,
-    }
-}
 
 fn use_rule<'a>(held: Option<Held<'a>>, wanted: Wanted) -> Option<Rule>
     ensures { result ≡ use_rule (option_map holds_of held.entry) wanted }
@@ -31,7 +17,7 @@ fn use_rule<'a>(held: Option<Held<'a>>, wanted: Wanted) -> Option<Rule>
     match (held, wanted) {
         (None, _) => Some(Rule::Unknown),
         (Some(Held::Value(ty)), Wanted::AValue(wanted)) => {
-            if ty_number(ty) == ty_number(wanted) {
+            if ty == wanted {
                 None
             } else {
                 Some(Rule::TypeClash)

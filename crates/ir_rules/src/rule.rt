@@ -1,11 +1,11 @@
-//! The rules, a broken rule with its place, and which of two broken rules is told first.
+//! The rules, a broken rule with its place, and which of two broken rules comes first.
 ghost use Rattle.std.specs.Prelude.{◌≡◌, Some};
 ghost use Rattle.ir_rules.specs.Least.{lesser, name_of, rank};
 
 use ir_ast::Ty;
 use std::fmt;
 
-/// A rule of the verifier, in the order in which broken rules are told at one place.
+/// A rule of the verifier, in the order in which broken rules at one place come.
 #[derive(Clone, Copy, Debug, PartialEq, Eq)]
 pub enum Rule {
     /// A register, function or host that is nowhere defined.
@@ -41,7 +41,7 @@ pub struct Fault {
 }
 
 impl Rule {
-    /// The rule's number in the order in which rules are told at one place.
+    /// The rule's number in the order in which broken rules at one place come.
     pub fn rank(self) -> u32
         ensures { result ≡ rank self }
     {
@@ -82,7 +82,7 @@ impl fmt::Display for Rule {
     }
 }
 
-/// The fault that is told before the other.
+/// The first of the faults: that of the lesser place, and at one place that of the lesser rank.
 pub fn lesser_fault(a: Option<Fault>, b: Option<Fault>) -> Option<Fault>
     ensures { result ≡ lesser a b }
 {

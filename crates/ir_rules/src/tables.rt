@@ -5,44 +5,69 @@ ghost use Rattle.std.specs.Cmp.Lexicographic.{slice_cmp};
 ghost use Rattle.std.specs.Ordering.{nat_cmp};
 ghost use Rattle.std.specs.Option.{option_map};
 ghost use Rattle.std.specs.Str.{bytes_eq};
-ghost use Rattle.ir_rules.specs.Paths.{place_named};
 ghost use Rattle.ir_rules.specs.Rules.{held};
 ghost use Rattle.ir_rules.specs.Seen.{seen, holds_of};
-ghost use Rattle.ir_rules.specs.Walk.{held_in, or_held};
+ghost use Rattle.ir_rules.specs.Walk.{Finds, held_in, or_first};
 
 use crate::events::{Held, Occurrence, Role};
+use ir_ast::{Block, Function, HostEntry};
 use std::alloc::{AllocError, Global};
 use std::collections::BTreeMap;
 
-/// For each of the names, the place of its first occurrence.
-pub fn first_places<'a>(
+/// Puts a value under a name that has none yet.
+fn insert_first<'a, V: Copy>(
+    table: &mut BTreeMap<&'a [u8], V>,
+    name: &'a [u8],
+    value: V,
+) -> Result<(), AllocError>
+    ensures { OnOk result ((q : List ℕ) → tree.get_by (λ k. slice_cmp nat_cmp q k.now) table.new ≡ or_first (tree.get_by (λ k. slice_cmp nat_cmp q k.now) table.old) (bytes_eq q name.now) value) }
+{
+    if !table.contains_key(name) {
+        table.insert(name, value)?;
+    }
+    Ok(())
+}
+
+/// For each label, the place of the first block that has it.
+pub fn label_places<'a>(
     alloc: Global,
-    names: &[&'a [u8]],
+    blocks: &'a [Block],
 ) -> Result<BTreeMap<&'a [u8], usize>, AllocError>
-    ensures { IfOk result (λ m. (q : List ℕ) → tree.get_by (λ k. slice_cmp nat_cmp q k.now) m ≡ place_named (λ w. w.now) names.now q) }
+    ensures { IfOk result (λ places. Finds (λ b. b.label.name) blocks.now places) }
 {
     let mut places = BTreeMap::new(alloc);
-    for place in 0..names.len() {
-        let name = names[place];
-        if !places.contains_key(name) {
-            places.insert(name, place)?;
-        }
+    for (place, block) in blocks.iter().enumerate() {
+        insert_first(&mut places, block.label.name.as_slice(), place)?;
     }
     Ok(places)
 }
 
-/// Adds a definition, unless the register has one already.
-fn define<'a>(
-    table: &mut BTreeMap<&'a [u8], Held<'a>>,
-    register: &'a [u8],
-    held: Held<'a>,
-) -> Result<(), AllocError>
-    ensures { OnOk result ((q : List ℕ) → held_in table.new q ≡ or_held (held_in table.old q) (bytes_eq q register.now) (holds_of held.entry)) }
+/// For each function's name, the place of the first function that has it.
+pub fn function_places<'a>(
+    alloc: Global,
+    functions: &'a [Function],
+) -> Result<BTreeMap<&'a [u8], usize>, AllocError>
+    ensures { IfOk result (λ places. Finds (λ f. f.name.name) functions.now places) }
 {
-    if !table.contains_key(register) {
-        table.insert(register, held)?;
+    let mut places = BTreeMap::new(alloc);
+    for (place, function) in functions.iter().enumerate() {
+        insert_first(&mut places, function.name.name.as_slice(), place)?;
     }
-    Ok(())
+    Ok(places)
+}
+
+/// For each host's name, the place of the first host that has it.
+pub fn host_places<'a>(
+    alloc: Global,
+    hosts: &'a [HostEntry],
+) -> Result<BTreeMap<&'a [u8], usize>, AllocError>
+    ensures { IfOk result (λ places. Finds (λ h. h.name) hosts.now places) }
+{
+    let mut places = BTreeMap::new(alloc);
+    for (place, host) in hosts.iter().enumerate() {
+        insert_first(&mut places, host.name.as_slice(), place)?;
+    }
+    Ok(places)
 }
 
 /// What the first definition of each register makes it hold.
@@ -55,7 +80,9 @@ pub fn registers<'a>(
     let mut table = BTreeMap::new(alloc);
     for event in events {
         match event.role {
-            Role::Defines(held) => define(&mut table, event.register.name.as_slice(), held)?,
+            Role::Defines(held) => {
+                insert_first(&mut table, event.register.name.as_slice(), held)?
+            }
             Role::Uses(_) => {}
         }
     }

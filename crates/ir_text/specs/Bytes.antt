@@ -1,7 +1,12 @@
--- The bytes that tokens are made of.
+-- The bytes that tokens are made of, and how many a text may have.
 use Rattle.std.specs.Prelude.{ℕ, Bool, ◌==◌, ◌&&◌, ◌||◌, not, nat_le, Option, Some, None, if◌then◌else◌}
+use Rattle.ir_text.specs.declared.lexer.TheConstants.{MOST_BYTES}
 use Rattle.ir_text.specs.declared.token.TokenKind.{TokenKind}
 use Rattle.ir_text.specs.declared.token.TokenKind.TheVariants.{OpenRound, CloseRound, OpenBrace, CloseBrace, Comma, Colon, Equals}
+
+-- the most bytes of a text
+abbrev pub most_bytes : ℕ
+most_bytes = MOST_BYTES
 
 abbrev pub is_blank : ℕ → Bool
 is_blank b = b == 32 || b == 9 || b == 13 || b == 10

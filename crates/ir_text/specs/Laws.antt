@@ -15,7 +15,7 @@ SomeOutcome = (text : List ℕ) (at : ℕ) → (r : Outcome) × Lexed text at r
 abbrev pub OneOutcome : Type 0
 OneOutcome = (text : List ℕ) (at : ℕ) (r s : Outcome) → Lexed text at r → Lexed text at s → r ≡ s
 
--- the tokens stand between two places, one behind the other, and none is empty
+-- the tokens are between two places, one after the other, and none is empty
 abbrev pub AreBetween : ℕ → ℕ → List Token → Type 0
 AreBetween start end [] = start ≤ end
 AreBetween start end (t ∷ ts) = (start ≤ t.span.start) × (0 < t.span.len) × AreBetween (t.span.start + t.span.len) end ts

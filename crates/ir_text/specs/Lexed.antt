@@ -64,7 +64,7 @@ pub data Lexed : List ℕ → ℕ → Outcome → Type 0 where
       → Lexed text at (after_token (cut_at k at (length bs)) r)
   refused : (b : ℕ) (rest : List ℕ) (at : ℕ) → IsBad b rest → Lexed (b ∷ rest) at (bad at)
 
--- why there are no tokens: the first bad byte, or want of memory, of which nothing is known
+-- why there are no tokens: the first bad byte, or out of memory, of which nothing is known
 abbrev pub IsLexFault : List ℕ → LexFault → Type 0
 IsLexFault text (BadByte at) = Lexed text 0 (bad at)
 IsLexFault text NoMemory = Unit {0}

@@ -1,4 +1,4 @@
--- What stands at the front of a text, by its first byte.
+-- What is at the front of a text, by its first byte.
 use Rattle.std.specs.Prelude.{ℕ, ◌+◌, ◌==◌, List, [], ◌∷◌, length, take_while, Option, Some, None, if◌then◌else◌}
 use Rattle.bsan_ids.specs.Names.{is_digit, is_start, is_name}
 use Rattle.ir_text.specs.Bytes.{is_blank, in_line, mark_of}

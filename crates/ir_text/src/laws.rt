@@ -7,7 +7,7 @@ pub fn one_outcome()
     ensures only { OneOutcome }
 {}
 
-/// The tokens of a text stand in it, one behind the other, and none is empty.
+/// The tokens of a text are in it, one after the other, and none is empty.
 pub fn spans_in_order()
     ensures { SpansInOrder }
 {}

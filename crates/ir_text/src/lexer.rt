@@ -1,5 +1,6 @@
 //! The lexer's loop over a text.
 ghost use Rattle.std.specs.Prelude.{◌≡◌, ◌≤◌, ◌<◌, ◌+◌, length, drop, slice_index, IfOk, IfErr};
+ghost use Rattle.ir_text.specs.Bytes.{most_bytes};
 ghost use Rattle.ir_text.specs.Step.{step_of};
 ghost use Rattle.ir_text.specs.Lexed.{Lexed, good, IsLexFault};
 
@@ -8,7 +9,10 @@ use crate::token::{LexFault, Token};
 use bsan_ids::Span;
 use std::alloc::Global;
 
-/// What stands at the place `at` of the text.
+/// The most bytes of a text.
+pub const MOST_BYTES: usize = 1_048_576;
+
+/// What the text has at the place `at`.
 fn front_at(text: &[u8], at: usize) -> Step
     requires { at < length text.now }
     ensures { result ≡ step_of (slice_index text.now at) (drop (at + 1) text.now) }
@@ -17,17 +21,16 @@ fn front_at(text: &[u8], at: usize) -> Step
     front_of(text[at], rest)
 }
 
-/// The tokens of a text of at most 1,048,576 bytes, in order, by the longest match.
+/// The tokens of a text of at most [`MOST_BYTES`], in order, by the longest match.
 ///
 /// Its time is linear in the text's length, and its memory is that of the tokens.
 ///
 /// # Errors
 ///
 /// `BadByte` with the place of the first byte outside a comment that separates no tokens and begins none: a byte
-/// outside the alphabet, a `%` or `@` without a name byte, or a `-` without `>`. `NoMemory` where memory for the
-/// tokens is wanting.
+/// outside the alphabet, a `%` or `@` without a name byte, or a `-` without `>`. `NoMemory`: out of memory.
 pub fn tokens(alloc: Global, text: &[u8]) -> Result<Vec<Token>, LexFault>
-    requires { length text.now ≤ 1048576 }
+    requires { length text.now ≤ most_bytes }
     ensures tokens { IfOk result (λ v. Lexed text.now 0 (good v.items)) }
     ensures bad { IfErr result (λ e. IsLexFault text.now e) }
 {
@@ -64,7 +67,7 @@ mod tests {
     const CUTS: [(&str, &[(TokenKind, u32, u32)]); 9] = [
         ("", &[]),
         (" \t\r\n", &[]),
-        ("; no newline behind $%@-", &[]),
+        ("; no newline after $%@-", &[]),
         (
             "bir 1 ; a comment\nfunc",
             &[(Word, 0, 3), (Number, 4, 1), (Word, 18, 4)],

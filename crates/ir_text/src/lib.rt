@@ -16,5 +16,5 @@ mod step;
 mod token;
 
 pub use laws::{one_outcome, spans_in_order, written_token};
-pub use lexer::tokens;
+pub use lexer::{MOST_BYTES, tokens};
 pub use token::{LexFault, Token, TokenKind};

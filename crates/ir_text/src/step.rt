@@ -1,5 +1,4 @@
-//! What stands at the front of a text.
-
+//! What is at the front of a text.
 ghost use Rattle.std.specs.Prelude.{◌≡◌, ◌+◌, length, take_while};
 ghost use Rattle.bsan_ids.specs.Names.{is_digit, is_start, is_name};
 ghost use Rattle.ir_text.specs.Bytes.{is_blank, in_line, mark_of};
@@ -7,12 +6,12 @@ ghost use Rattle.ir_text.specs.Step.{step_of, named, arrow_of};
 
 use crate::token::TokenKind;
 
-/// What stands at the front of a text.
+/// What is at the front of a text.
 #[derive(Clone, Copy)]
 pub enum Step {
-    /// A blank or a comment of so many bytes.
+    /// A blank or a comment of this many bytes.
     Skip(usize),
-    /// A token of so many bytes, the longest that begins there.
+    /// A token of this many bytes, the longest that begins there.
     Token(TokenKind, usize),
     /// A byte that begins no token.
     Bad,
@@ -83,7 +82,7 @@ fn line_len(text: &[u8]) -> usize
     text.iter().take_while(|byte| **byte != b'\n').count()
 }
 
-/// What stands at a name's sign, of which the name is the `kind`, by what follows the sign.
+/// What is at the sign of a name of this kind, by what follows the sign.
 fn named(kind: TokenKind, rest: &[u8]) -> Step
     ensures { result ≡ named kind rest.now }
 {
@@ -95,7 +94,7 @@ fn named(kind: TokenKind, rest: &[u8]) -> Step
     }
 }
 
-/// What stands at a `-`, by what follows it.
+/// What is at a `-`, by what follows it.
 fn arrow(rest: &[u8]) -> Step
     ensures { result ≡ arrow_of rest.now }
 {
@@ -105,7 +104,7 @@ fn arrow(rest: &[u8]) -> Step
     }
 }
 
-/// What stands at the front of a text, by its first byte and the rest.
+/// What is at the front of a text, by its first byte and the rest.
 pub fn front_of(first: u8, rest: &[u8]) -> Step
     ensures { result ≡ step_of first rest.now }
 {

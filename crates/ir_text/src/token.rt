@@ -46,7 +46,7 @@ pub struct Token {
 pub enum LexFault {
     /// The first byte outside a comment that neither is a blank nor begins a token, by its place in the text.
     BadByte { at: u32 },
-    /// Memory for the tokens is wanting.
+    /// Out of memory.
     NoMemory,
 }
 
@@ -58,7 +58,7 @@ impl From<AllocError> for LexFault {
     }
 }
 
-/// The token that could not be stored is let go.
+/// The token that could not be stored is dropped.
 impl<T: Drop> From<AllocFailed<T>> for LexFault {
     ghost from_gives = { λ _ e. e ≡ NoMemory };
 

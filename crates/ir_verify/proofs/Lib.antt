@@ -1,4 +1,3 @@
-pub mod Any
 pub mod Said
 pub mod Steps
 pub mod Seconds

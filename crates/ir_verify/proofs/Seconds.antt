@@ -14,12 +14,12 @@ use Rattle.ir_rules.specs.Occurrences.{Event, Holds, Use}
 use Rattle.ir_rules.specs.Occurrences.Event.{defines, uses}
 use Rattle.ir_rules.specs.Rules.{defined}
 use Rattle.ir_rules.proofs.Least.{least-or, least-same, same-after}
-use Rattle.ir_rules.proofs.Uses.{take_whole}
+use Rattle.ir_rules.proofs.Any.{take_whole}
 use Rattle.ir_verify.specs.declared.twice.Times.{Times}
 use Rattle.ir_verify.specs.declared.twice.Times.TheVariants.{Once, More}
 use Rattle.ir_verify.specs.Faults.{TwiceFault}
 use Rattle.ir_verify.specs.Counts.{next_times, number_of, up_to_two, one_more, twice_fault}
-use Rattle.ir_verify.proofs.Steps.{taken-next}
+use Rattle.ir_rules.proofs.Any.{taken-next}
 
 -- how often the name stands
 abbrev pub times : List ℕ → List Named → ℕ

@@ -11,8 +11,8 @@ use Rattle.std.specs.Cmp.Lexicographic.{bytes_decides}
 use Rattle.std.proofs.lemmas.List.Elements.{Contains-append_left, Contains-append_right}
 use Rattle.ir_ast.specs.declared.types.Ty.{Ty}
 use Rattle.ir_ast.specs.declared.program.Named.{Named}
-use Rattle.ir_rules.specs.Checks.{same_ty}
-use Rattle.ir_rules.proofs.Agree.{ty_decides}
+use Rattle.ir_rules.specs.Walk.{same_ty}
+use Rattle.ir_rules.proofs.Uses.{ty_decides}
 use Rattle.ir_ast.specs.declared.program.Block.{Block}
 use Rattle.ir_ast.specs.declared.program.Function.{Function}
 use Rattle.ir_ast.specs.declared.program.Program.{Program}

@@ -1,10 +1,5 @@
 -- The broken rules of each part of a program, as sets of faults.
-use Rattle.std.specs.Prelude.{◌≡◌, ◌≢◌, ◌⊎◌, ℕ, List, [], ◌∷◌, map, Option}
-use Rattle.std.specs.BTreeMap as tree
-use Rattle.std.specs.BTreeMap.{BTreeMap}
-use Rattle.std.specs.Cmp.Lexicographic.{slice_cmp}
-use Rattle.std.specs.Ordering.{nat_cmp}
-use denote.Ref.{Bor}
+use Rattle.std.specs.Prelude.{◌≡◌, ◌≢◌, ◌⊎◌, List, [], ◌∷◌, map, Option}
 use Rattle.ir_ast.specs.declared.types.Ty.{Ty}
 use Rattle.ir_ast.specs.declared.program.Named.{Named}
 use Rattle.ir_ast.specs.declared.program.Goal.{Goal}
@@ -17,16 +12,10 @@ use Rattle.ir_ast.specs.declared.program.Program.{Program}
 use Rattle.ir_ast.specs.declared.hosts.HostEntry.{HostEntry}
 use Rattle.ir_rules.specs.declared.rule.Rule.TheVariants.{Twice, TypeClash, BadTarget, NoMain}
 use Rattle.ir_rules.specs.declared.rule.Fault.{Fault}
-use Rattle.ir_rules.specs.Least.{fault}
+use Rattle.ir_rules.specs.Least.{fault, AnyOf}
 use Rattle.ir_rules.specs.Occurrences.{Event, jump_goals, function_events}
-use Rattle.ir_rules.specs.Paths.{place_named}
 use Rattle.ir_rules.specs.Rules.{HasMain, GoalFits, OpBreaks, RetBreaks, SecondOf, defined}
 use Rattle.ir_rules.specs.Walk.{WrongUse}
-
--- a fault of one of the items
-abbrev pub AnyOf : {A : Type 0} → (A → Fault → Type 0) → List A → Fault → Type 0
-AnyOf S [] x = ⊥
-AnyOf S (e ∷ es) x = S e x ⊎ AnyOf S es x
 
 abbrev pub TwiceFault : List Named → Fault → Type 0
 TwiceFault names x = (x.rule ≡ Twice) × SecondOf names x.at
@@ -66,7 +55,3 @@ NoMainFault p x = (HasMain p.functions → ⊥) × (x ≡ fault NoMain p.end)
 -- a broken rule of the program as a whole, or of one of its functions
 abbrev pub ProgramFault : Program → List HostEntry → Fault → Type 0
 ProgramFault p hosts x = (TwiceFault (map (λ f. f.name) p.functions) x ⊎ NoMainFault p x) ⊎ AnyOf (FunctionFault p.functions hosts) p.functions x
-
--- the table tells of each name the place where it first stands
-abbrev pub Finds : {A : Type 0} → (A → List ℕ) → List A → BTreeMap (Bor (List ℕ)) ℕ → Type 0
-Finds named xs table = (q : List ℕ) → tree.get_by (λ k. slice_cmp nat_cmp q k.now) table ≡ place_named named xs q

@@ -2,14 +2,12 @@
 ghost use Rattle.std.specs.Prelude.{◌≡◌};
 ghost use Rattle.std.specs.Option.{option_copied};
 ghost use Rattle.ir_rules.specs.Walk.{held_in};
-ghost use Rattle.ir_verify.specs.Faults.{Finds};
 ghost use Rattle.ir_rules.specs.Checks.{call_fits, host_fits, join_fault, name_fault, op_fault, spawn_fits, unless};
 
 use crate::names::{Table, function_named, host_named, joined};
 use crate::types::{all_host_types, is_conversion, is_host_type, same_result, takes};
 use ir_ast::{Function, HostEntry, Named, Op, Ty, TypedVal};
-use ir_rules::Held;
-use ir_rules::{Fault, Rule};
+use ir_rules::{Fault, Held, Rule};
 use std::collections::BTreeMap;
 
 /// The fault, unless the test holds.
@@ -86,8 +84,6 @@ pub fn op_fault<'a>(
     registers: &BTreeMap<&'a [u8], Held<'a>>,
     op: &Op,
 ) -> Option<Fault>
-    requires functions { Finds (λ f. f.name.name) table.now.functions.now table.now.function_places }
-    requires hosts { Finds (λ h. h.name) table.now.hosts.now table.now.host_places }
     ensures { result ≡ op_fault table.now.functions.now table.now.hosts.now (held_in registers.now) op.now }
 {
     match op {

@@ -1,19 +1,21 @@
 //! The first broken rule of a function, but for registers that may be unassigned.
 ghost use Rattle.std.specs.Prelude.{◌≡◌, ℕ, List, IfOk};
-ghost use Rattle.ir_rules.specs.Least.{IsLeast};
+ghost use Rattle.ir_rules.specs.Least.{AnyOf, IsLeast};
 ghost use Rattle.ir_rules.specs.Occurrences.{function_events};
 ghost use Rattle.ir_rules.specs.Rules.{held};
 ghost use Rattle.ir_rules.specs.Seen.{seen};
-ghost use Rattle.ir_rules.specs.Walk.{held_in};
-ghost use Rattle.ir_verify.specs.Faults.{AnyOf, BlockFault, Finds, FunctionFault, LabelFault, RegisterFault};
+ghost use Rattle.ir_rules.specs.Walk.{Finds, held_in};
+ghost use Rattle.ir_verify.specs.Faults.{BlockFault, FunctionFault, LabelFault, RegisterFault};
 
 use crate::calls::op_fault;
-use crate::names::{Table, label_names, texts};
+use crate::names::{Table, label_names};
 use crate::targets::{first_block_fault, goals_fault, ret_fault};
 use crate::twice::{definitions, second_definitions};
 use ir_ast::{Block, Function};
-use ir_rules::{Held, Occurrence, first_places, function_occurrences, registers, wrong_uses};
-use ir_rules::{Fault, lesser_fault};
+use ir_rules::{
+    Fault, Held, Occurrence, function_occurrences, label_places, lesser_fault, registers,
+    wrong_uses,
+};
 use std::alloc::{AllocError, Global};
 use std::collections::BTreeMap;
 
@@ -24,8 +26,6 @@ fn block_fault<'a>(
     function: &Function,
     block: &Block,
 ) -> Option<Fault>
-    requires functions { Finds (λ f. f.name.name) table.now.functions.now table.now.function_places }
-    requires hosts { Finds (λ h. h.name) table.now.hosts.now table.now.host_places }
     requires registers { (q : List ℕ) → held_in holdings.now q ≡ held (function_events function.now) q }
     requires labels { Finds (λ b. b.label.name) function.now.blocks places.now }
     ensures { IsLeast (BlockFault table.now.functions.now table.now.hosts.now function.now block.now) result }
@@ -47,8 +47,6 @@ fn blocks_fault<'a>(
     places: &BTreeMap<&'a [u8], usize>,
     function: &Function,
 ) -> Option<Fault>
-    requires functions { Finds (λ f. f.name.name) table.now.functions.now table.now.function_places }
-    requires hosts { Finds (λ h. h.name) table.now.hosts.now table.now.host_places }
     requires registers { (q : List ℕ) → held_in holdings.now q ≡ held (function_events function.now) q }
     requires labels { Finds (λ b. b.label.name) function.now.blocks places.now }
     ensures { IsLeast (AnyOf (BlockFault table.now.functions.now table.now.hosts.now function.now) function.now.blocks) result }
@@ -72,8 +70,7 @@ fn register_fault<'a>(
 {
     let wrong = wrong_uses(occurrences, holdings);
     let registers = definitions(alloc, occurrences)?;
-    let names = registers.as_slice();
-    let twice = second_definitions(alloc, names)?;
+    let twice = second_definitions(alloc, registers.as_slice())?;
     Ok(lesser_fault(wrong, twice))
 }
 
@@ -83,26 +80,9 @@ fn label_fault(alloc: Global, function: &Function) -> Result<Option<Fault>, Allo
 {
     let blocks = function.blocks.as_slice();
     let labels = label_names(alloc, blocks)?;
-    let names = labels.as_slice();
-    let twice = second_definitions(alloc, names)?;
+    let twice = second_definitions(alloc, labels.as_slice())?;
     let first = first_block_fault(blocks);
     Ok(lesser_fault(twice, first))
-}
-
-/// The places of the blocks that labels name.
-fn label_places<'a>(
-    alloc: Global,
-    function: &'a Function,
-) -> Result<BTreeMap<&'a [u8], usize>, AllocError>
-    ensures { IfOk result (λ m. Finds (λ b. b.label.name) function.now.blocks m) }
-{
-    let blocks = function.blocks.as_slice();
-    let labels = label_names(alloc, blocks)?;
-    let named = labels.as_slice();
-    let bytes = texts(alloc, named)?;
-    let names = bytes.as_slice();
-    let places = first_places(alloc, names)?;
-    Ok(places)
 }
 
 /// The first broken rule of a function.
@@ -111,8 +91,6 @@ pub fn function_fault<'a>(
     table: &Table<'a>,
     function: &'a Function,
 ) -> Result<Option<Fault>, AllocError>
-    requires functions { Finds (λ f. f.name.name) table.now.functions.now table.now.function_places }
-    requires hosts { Finds (λ h. h.name) table.now.hosts.now table.now.host_places }
     ensures { IfOk result (λ o. IsLeast (FunctionFault table.now.functions.now table.now.hosts.now function.now) o) }
 {
     let occurrences = function_occurrences(alloc, function)?;
@@ -120,7 +98,7 @@ pub fn function_fault<'a>(
     let holdings = registers(alloc, events)?;
     let of_registers = register_fault(alloc, events, &holdings)?;
     let of_labels = label_fault(alloc, function)?;
-    let places = label_places(alloc, function)?;
+    let places = label_places(alloc, function.blocks.as_slice())?;
     let of_blocks = blocks_fault(table, &holdings, &places, function);
     let of_names = lesser_fault(of_registers, of_labels);
     Ok(lesser_fault(of_names, of_blocks))

@@ -12,7 +12,7 @@ pub enum VerifyFault {
     /// This rule is broken at this place, the offset of a token's first byte. Of all broken rules it is
     /// the one of the least place, and at that place the first in the order of the rules.
     Refused { rule: Rule, at: u32 },
-    /// Memory for the tables of the verifier is wanting.
+    /// Out of memory.
     NoMemory,
 }
 

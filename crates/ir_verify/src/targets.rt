@@ -1,9 +1,10 @@
 //! Goals, returns and the first block.
 ghost use Rattle.std.specs.Prelude.{◌≡◌};
-ghost use Rattle.ir_rules.specs.Least.{IsLeast};
+ghost use Rattle.ir_rules.specs.Least.{AnyOf, IsLeast};
 ghost use Rattle.ir_rules.specs.Occurrences.{jump_goals};
 ghost use Rattle.ir_rules.specs.Rules.{ret_type};
-ghost use Rattle.ir_verify.specs.Faults.{AnyOf, Finds, GoalFault};
+ghost use Rattle.ir_rules.specs.Walk.{Finds};
+ghost use Rattle.ir_verify.specs.Faults.{GoalFault};
 ghost use Rattle.ir_rules.specs.Checks.{first_block_fault, goal_fault, goal_fits, ret_fault};
 
 use crate::calls::unless;
@@ -88,7 +89,7 @@ pub fn first_block_fault(blocks: &[Block]) -> Option<Fault>
 {
     match blocks.first() {
         Some(block) => {
-            let none = block.params.len() == 0;
+            let none = block.params.is_empty();
             unless(none, Rule::BadTarget, block.label.at)
         }
         None => None,

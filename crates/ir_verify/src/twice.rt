@@ -8,8 +8,7 @@ ghost use Rattle.ir_verify.specs.Faults.{TwiceFault};
 ghost use Rattle.ir_verify.specs.Counts.{next_times, one_more, times_in, twice_fault};
 
 use ir_ast::Named;
-use ir_rules::{Occurrence, Role};
-use ir_rules::{Fault, Rule, lesser_fault};
+use ir_rules::{Fault, Occurrence, Role, Rule, lesser_fault};
 use std::alloc::{AllocError, Global};
 use std::collections::BTreeMap;
 
@@ -58,8 +57,7 @@ pub fn second_definitions<'a>(
 {
     let mut table = BTreeMap::new(alloc);
     let mut first = None;
-    for place in 0..names.len() {
-        let named = names[place];
+    for named in names {
         first = lesser_fault(first, twice_fault(&table, named));
         count(&mut table, named.name.as_slice())?;
     }

@@ -1,26 +1,22 @@
 //! Whether types agree.
 ghost use Rattle.std.specs.Prelude.{◌≡◌};
 ghost use Rattle.ir_ast.specs.Words.{bits};
-ghost use Rattle.ir_rules.specs.Checks.{all_host_types, is_conversion, is_host_type, same_result, same_ty, takes};
+ghost use Rattle.ir_rules.specs.Checks.{all_host_types, is_conversion, is_host_type, same_result, takes};
+ghost use Rattle.ir_rules.specs.Walk.{same_ty};
 
 use ir_ast::{CastOp, Param, Ty, TypedVal, Width};
-use ir_rules::ty_number;
 
-pub fn same_ty(a: Ty, b: Ty) -> bool
+fn same_ty(a: Ty, b: Ty) -> bool
     ensures { result ≡ same_ty a b }
 {
-    ty_number(a) == ty_number(b)
+    a == b
 }
 
 /// Whether two results agree. Without a type a result is `void`.
 pub fn same_result(a: Option<Ty>, b: Option<Ty>) -> bool
     ensures { result ≡ same_result a b }
 {
-    match (a, b) {
-        (None, None) => true,
-        (Some(a), Some(b)) => same_ty(a, b),
-        (None, Some(_)) | (Some(_), None) => false,
-    }
+    a == b
 }
 
 /// Whether the arguments have the parameters' number and types.
@@ -30,8 +26,8 @@ pub fn takes(params: &[Param], args: &[TypedVal]) -> bool
     if params.len() != args.len() {
         return false;
     }
-    for i in 0..params.len() {
-        if !same_ty(params[i].ty, args[i].ty) {
+    for (place, param) in params.iter().enumerate() {
+        if !same_ty(param.ty, args[place].ty) {
             return false;
         }
     }
@@ -59,15 +55,10 @@ pub fn all_host_types(args: &[TypedVal]) -> bool
     true
 }
 
-fn bits(width: Width) -> u8
+fn bits(width: Width) -> u32
     ensures { result ≡ bits width }
 {
-    match width {
-        Width::W8 => 8,
-        Width::W16 => 16,
-        Width::W32 => 32,
-        Width::W64 => 64,
-    }
+    8 * width.bytes()
 }
 
 /// Whether a cast goes to a wider type, or for `trunc` to a narrower one.

@@ -23,7 +23,7 @@ fn accept(program: Program, hosts: &HostTable) -> Result<Verified, NoMemory>
     Ok(Verified::new(program, hosts))
 }
 
-/// The broken rule that is told, if one is broken.
+/// The broken rule that is reported, if one is broken.
 fn first_fault(
     alloc: Global,
     program: &Program,
@@ -36,12 +36,12 @@ fn first_fault(
     Ok(lesser_fault(of_parts, of_paths))
 }
 
-/// Verifies a program for a table of host functions. The program is given up on a refusal.
+/// Verifies a program for a table of host functions. The program is dropped on an error.
 ///
 /// # Errors
 ///
 /// `Refused` exactly where a rule is broken somewhere: the broken rule of the least place, and at one place
-/// the first in the order of the rules. `NoMemory`: want of memory.
+/// the first in the order of the rules. `NoMemory`: out of memory.
 pub fn verify(alloc: Global, program: Program, hosts: &HostTable) -> Result<Verified, VerifyFault>
     requires program { IsProgram program }
     requires few_hosts { length hosts.now.entries < 2 ^ 32 }
@@ -55,9 +55,6 @@ pub fn verify(alloc: Global, program: Program, hosts: &HostTable) -> Result<Veri
             rule: fault.rule,
             at: fault.at,
         }),
-        None => {
-            let verified = accept(program, hosts)?;
-            Ok(verified)
-        }
+        None => Ok(accept(program, hosts)?),
     }
 }

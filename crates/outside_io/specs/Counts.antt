@@ -1,10 +1,10 @@
 -- Counts of faults, which are numbers of 64 bits.
 use Rattle.std.specs.Prelude.{◌+◌, ◌-◌, ◌^◌, ◌≤◌, ℕ, min}
 
--- one more, but for a count that stands at its greatest value
+-- one more, but for a count at its greatest value
 abbrev pub one_more : ℕ → ℕ
 one_more count = min (count + 1) (2 ^ 64 - 1)
 
--- a count went up, or stands at its greatest value
+-- a count went up, or is at its greatest value
 abbrev pub Rose : ℕ → ℕ → Type 0
 Rose before now = one_more before ≤ now

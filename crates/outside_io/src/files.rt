@@ -12,7 +12,7 @@ pub enum FileFault {
     Failed,
     /// It has more bytes than the limit.
     TooLong,
-    /// Want of memory.
+    /// Out of memory.
     NoMemory,
 }
 
@@ -29,9 +29,9 @@ impl From<NoMemory> for FileFault {
 /// Files, seen by name.
 ///
 /// They count how often a read of a name has failed, and how often a name was longer than a limit.
-/// A count that stands at 2^64 - 1 or above counts as risen in each call.
+/// A count of 2^64 - 1 or above counts as risen in each call.
 pub trait Files {
-    /// The content of a file, where that is told.
+    /// The content of a file, where that is known.
     ghost content: { Self → List ℕ → Option (List ℕ) };
 
     /// How often a read of a name has failed.
@@ -49,7 +49,7 @@ pub trait Files {
     /// - `Failed`: the file could not be opened or read, and this name's count of faults rose.
     /// - `TooLong`: the file has more than `limit` bytes, and this name's and limit's count of
     ///   overlong reads rose.
-    /// - `NoMemory`: want of memory.
+    /// - `NoMemory`: out of memory.
     fn read_file(&mut self, name: &str, limit: u64, into: &mut Vec<u8>) -> Result<(), FileFault>
         ensures read { OnOk result (Tells (content self.old name.now) into.new.items) }
         ensures within { OnOk result (length into.new.items ≤ limit) }

@@ -1,6 +1,6 @@
 //! Points of a run of threads at which a test may hold a thread.
 
-/// Where a thread stands.
+/// Where a thread is held.
 #[derive(Clone, Copy, Debug, PartialEq, Eq)]
 pub enum Point {
     /// A child, before its first step.
@@ -11,7 +11,7 @@ pub enum Point {
     Inside(u32),
 }
 
-/// What is told where threads stand. It has no effect that a contract speaks of: an implementation
+/// What hears where threads are. It has no effect that a contract speaks of: an implementation
 /// waits, so that tests can bring threads into an order.
 pub trait Gate {
     /// The thread with this number has come to this point, and goes on when the call returns.

@@ -95,7 +95,7 @@ impl Files for MemFiles {
     ///
     /// - `Failed`: the call's number is among those that fail, or no file has the name.
     /// - `TooLong`: otherwise, where the content has more than `limit` bytes.
-    /// - `NoMemory`: want of memory.
+    /// - `NoMemory`: out of memory.
     fn read_file(&mut self, name: &str, limit: u64, into: &mut Vec<u8>) -> Result<(), FileFault>
         ensures read { OnOk result (Tells (mem_content self.old name.now) into.new.items) }
         ensures within { OnOk result (length into.new.items ≤ limit) }

@@ -69,7 +69,7 @@ impl Sink for MemSink {
     /// # Errors
     ///
     /// - `Failed`: the piece is longer than the room that is left; as much of it was taken.
-    /// - `NoMemory`: want of memory; nothing of the piece was taken.
+    /// - `NoMemory`: out of memory; nothing of the piece was taken.
     fn put(&mut self, piece: &[u8]) -> Result<(), PutFault>
         ensures put { OnOk result (Appends (Some (sink_bytes self.old)) (Some (sink_bytes self.new)) piece.now) }
         ensures failed { IsErrOf result PutFault.Failed → Rose (sink_faults self.old) (sink_faults self.new) }
@@ -78,7 +78,7 @@ impl Sink for MemSink {
         ensures nothing { IsErrOf result PutFault.NoMemory → Keeps (Some (sink_bytes self.old)) (Some (sink_bytes self.new)) }
         ensures faults { sink_faults self.old ≤ sink_faults self.new }
 
-        // Exactly, want of memory aside: which pieces are taken whole, and what of the others.
+        // Exactly, but for out of memory: which pieces are taken whole, and what of the others.
         ensures fits { OnOk result (sink_fits self.old piece.now) }
         ensures full { IsErrOf result PutFault.Failed → ¬ sink_fits self.old piece.now }
         ensures takes { result ≢ Err PutFault.NoMemory

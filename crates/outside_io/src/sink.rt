@@ -9,15 +9,15 @@ ghost use Rattle.outside_io.specs.Putting.{AppendsPrefix};
 pub enum PutFault {
     /// The sink took a prefix of the piece, and no more.
     Failed,
-    /// Want of memory.
+    /// Out of memory.
     NoMemory,
 }
 
 /// A sink of bytes, which counts its faults.
 ///
-/// A count that stands at 2^64 - 1 or above counts as risen in each call.
+/// A count of 2^64 - 1 or above counts as risen in each call.
 pub trait Sink {
-    /// The bytes taken, where that is told.
+    /// The bytes taken, where that is known.
     ghost taken: { Self → Option (List ℕ) };
 
     /// How often a piece has failed.
@@ -28,7 +28,7 @@ pub trait Sink {
     /// # Errors
     ///
     /// - `Failed`: a prefix of the piece was taken, and the count of faults rose.
-    /// - `NoMemory`: want of memory; nothing of the piece was taken.
+    /// - `NoMemory`: out of memory; nothing of the piece was taken.
     fn put(&mut self, piece: &[u8]) -> Result<(), PutFault>
         ensures put { OnOk result (Appends (taken self.old) (taken self.new) piece.now) }
         ensures failed { IsErrOf result PutFault.Failed → Rose (faults self.old) (faults self.new) }

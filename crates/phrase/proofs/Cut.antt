@@ -21,7 +21,7 @@ use Rattle.ir_text.proofs.Written.{Separates, written, drop_front}
 use Rattle.ir_ast.specs.Tokens.{Form, Asked, Each, forms}
 use Rattle.ir_ast.specs.Tokens.Form.{word, local, global, number, open_round, close_round, open_brace, close_brace, comma, colon, equals, arrow}
 use Rattle.ir_ast.specs.Lines.{Line, program_lines, spell}
-use Rattle.ir_ast.specs.Texts.{form_text, hugs, opens, space, spaced, line_text, canonical}
+use Rattle.ir_ast.specs.Texts.{form_text, no_space_before, no_space_after, space, spaced, line_text, canonical}
 use Rattle.ir_ast.specs.Programs.{IsPossible, CanStand, IsProgram}
 use Rattle.ir_ast.specs.Writable.{IsWord}
 use Rattle.phrase.specs.Lexes.{form_of, lex, IsCut}
@@ -65,7 +65,7 @@ word_form : (text : List ℕ) → IsWord text → IsForm Word text
 word_form [] h = absurd h
 word_form (b ∷ bs) h = h
 
-form_cut : (f : Form) (tail : List ℕ) (at : ℕ) (r : Outcome) → Fine f → (opens f ≡ false → Separates tail) → Lexed tail (at + length (form_text f)) r
+form_cut : (f : Form) (tail : List ℕ) (at : ℕ) (r : Outcome) → Fine f → (no_space_after f ≡ false → Separates tail) → Lexed tail (at + length (form_text f)) r
     → Lexed (form_text f ++ tail) at (after_token (cut_at (kind_of f) at (length (form_text f))) r)
 form_cut (word text) tail at r h sep l = written Word text tail at r (word_form text h.0) (sep refl) l
 form_cut (local name) tail at r h sep l = written Local (37 ∷ name) tail at r (refl, h.0.0, h.0.1) (sep refl) l
@@ -116,7 +116,7 @@ take_front : (xs ys : List ℕ) → take (length xs) (xs ++ ys) ≡ xs
 take_front [] ys = refl
 take_front (x ∷ xs) ys = ap (λ (z : List ℕ). x ∷ z) (take_front xs ys)
 
-token_cut : (full tail : List ℕ) (f : Form) (at end : ℕ) (fs : List Form) → drop at full ≡ form_text f ++ tail → Fine f → (opens f ≡ false → Separates tail) → end ≡ at + length (form_text f) → Rest full tail end fs
+token_cut : (full tail : List ℕ) (f : Form) (at end : ℕ) (fs : List Form) → drop at full ≡ form_text f ++ tail → Fine f → (no_space_after f ≡ false → Separates tail) → end ≡ at + length (form_text f) → Rest full tail end fs
     → Rest full (form_text f ++ tail) at (f ∷ fs)
 token_cut full tail f at end fs here h sep e c =
     let head : form_of (kind_of f) (take (length (form_text f)) (drop at full)) ≡ f =
@@ -155,8 +155,8 @@ spaced_cut : (full rest : List ℕ) (tight : Bool) (fs : List Form) (at end : �
     → Rest full (spaced tight fs ++ rest) at (fs ++ gs)
 spaced_cut full rest tight [] at end gs here h sep e c = let same : end ≡ at = omega arith in subst (λ (z : ℕ). Rest full rest z gs) same c
 spaced_cut full rest tight (f ∷ fs) at end gs here h sep e c =
-    let front : List ℕ = space (tight || hugs f) in
-    let later : List ℕ = spaced (opens f) fs in
+    let front : List ℕ = space (tight || no_space_before f) in
+    let later : List ℕ = spaced (no_space_after f) fs in
     let split : ((front ++ form_text f) ++ later) ++ rest ≡ front ++ (form_text f ++ (later ++ rest)) = simp append_assoc in
     let first : drop at full ≡ front ++ (form_text f ++ (later ++ rest)) = here ∙ split in
     let second : drop (at + length front) full ≡ form_text f ++ (later ++ rest) = advance full front (form_text f ++ (later ++ rest)) at (at + length front) first refl in
@@ -167,10 +167,10 @@ spaced_cut full rest tight (f ∷ fs) at end gs here h sep e c =
     let last : end ≡ at + length front + length (form_text f) + length later =
     whole ∙ ap (λ (z : ℕ). at + z) sizes ∙ shift at (length front) (length (form_text f)) (length later) in
     subst (λ (z : List ℕ). Rest full z at (f ∷ (fs ++ gs))) (sym split)
-    (space_cut full (form_text f ++ (later ++ rest)) (tight || hugs f) at (at + length front) (f ∷ (fs ++ gs)) refl
+    (space_cut full (form_text f ++ (later ++ rest)) (tight || no_space_before f) at (at + length front) (f ∷ (fs ++ gs)) refl
     (token_cut full (later ++ rest) f (at + length front) (at + length front + length (form_text f)) (fs ++ gs) second h.0
     (λ closed. subst (λ (z : Bool). Separates (spaced z fs ++ rest)) (sym closed) (separated fs rest sep)) refl
-    (spaced_cut full rest (opens f) fs (at + length front + length (form_text f)) end gs third h.1 sep last c)))
+    (spaced_cut full rest (no_space_after f) fs (at + length front + length (form_text f)) end gs third h.1 sep last c)))
 
 line_cut : (full rest : List ℕ) (line : Line) (at end : ℕ) (gs : List Form) → drop at full ≡ line_text line ++ rest → Each Fine (forms line.tokens) → end ≡ at + length (line_text line) → Rest full rest end gs
     → Rest full (line_text line ++ rest) at (forms line.tokens ++ gs)

@@ -1,7 +1,7 @@
 //! The provenances of one frame, and how many more fit without memory.
 ghost use Rattle.std.specs.Prelude.{◌≡◌, [], ◌∷◌, ◌++◌, ◌+◌, ◌≤◌, IsOk, OnOk, OnErr};
 
-use bsan_ids::{NoMemory, Prov};
+use bsan_ids::{Copied, NoMemory, Prov, copy_vec};
 use std::alloc::Global;
 use std::marker::Model;
 
@@ -35,6 +35,10 @@ impl Frame {
     }
 
     /// Makes room for one more provenance, where there is none yet.
+    ///
+    /// # Errors
+    ///
+    /// `NoMemory`: out of memory, where there was no room. The frame is as before.
     pub fn reserve(&mut self) -> Result<(), NoMemory>
         ensures ok { OnOk result (1 ≤ self.new.spare) }
         ensures succeeds { 1 ≤ self.old.spare → IsOk result }
@@ -51,5 +55,13 @@ impl Frame {
         ensures spare { self.old.spare ≤ self.new.spare + 1 }
     {
         self.provs.push_reserved(prov);
+    }
+}
+
+impl Copied for Frame {
+    fn copy(&self) -> Result<Frame, NoMemory> {
+        Ok(Frame {
+            provs: copy_vec(&self.provs)?,
+        })
     }
 }

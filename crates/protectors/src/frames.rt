@@ -3,15 +3,15 @@ ghost use Rattle.std.specs.Prelude.{◌≡◌, [], ◌∷◌, ◌++◌, ◌+◌,
 ghost use Rattle.protectors.specs.Lists.{top_of, below_top};
 
 use crate::frame::Frame;
-use bsan_ids::{NoMemory, Prov};
+use bsan_ids::{Copied, NoMemory, Prov, copy_vec};
 use std::alloc::Global;
 use std::marker::Model;
 
-/// The protectors that each frame of a thread made, the newest frame last, and in each frame in the order in which
-/// they were made.
+/// The protectors that each frame of a thread made, the newest frame last, and in each frame in the
+/// order in which they were made.
 ///
-/// Contracts see `lists`, a list for each frame, and two counts of what fits without memory: `spare` more provenances
-/// in the last list, and `spare_frames` more lists.
+/// Contracts see `lists`, a list for each frame, and two counts of what fits without memory: `spare`
+/// more provenances in the last list, and `spare_frames` more lists.
 #[derive(Drop)]
 pub struct Frames {
     frames: Vec<Frame>,
@@ -40,7 +40,7 @@ impl Frames {
     ///
     /// # Errors
     ///
-    /// `NoMemory` where memory is wanting and there was no room. The frames and both counts are then as they were.
+    /// `NoMemory`: out of memory, where there was no room. The frames and both counts are as before.
     pub fn reserve_frame(&mut self) -> Result<(), NoMemory>
         ensures ok { OnOk result (1 ≤ self.new.spare_frames) }
         ensures succeeds { 1 ≤ self.old.spare_frames → IsOk result }
@@ -62,11 +62,12 @@ impl Frames {
         self.frames.push_reserved(frame);
     }
 
-    /// Makes room for one more protector in the newest frame, of which there has to be one, where there is none yet.
+    /// Makes room for one more protector in the newest frame, where there is none yet. There has to
+    /// be a frame.
     ///
     /// # Errors
     ///
-    /// `NoMemory` where memory is wanting and there was no room. The frames and both counts are then as they were.
+    /// `NoMemory`: out of memory, where there was no room. The frames and both counts are as before.
     pub fn reserve(&mut self) -> Result<(), NoMemory>
         requires { 0 < length self.old.lists }
         ensures ok { OnOk result (1 ≤ self.new.spare) }
@@ -79,7 +80,8 @@ impl Frames {
         self.frames[top].reserve()
     }
 
-    /// Appends a protector to the newest frame. It takes no memory: there has to be a frame, with room for one more.
+    /// Appends a protector to the newest frame. It takes no memory: there has to be a frame, with
+    /// room for one more.
     pub fn push(&mut self, prov: Prov)
         requires some { 0 < length self.old.lists }
         requires room { 1 ≤ self.old.spare }
@@ -108,6 +110,14 @@ impl Frames {
     }
 }
 
+impl Copied for Frames {
+    fn copy(&self) -> Result<Frames, NoMemory> {
+        Ok(Frames {
+            frames: copy_vec(&self.frames)?,
+        })
+    }
+}
+
 #[cfg(test)]
 mod tests {
     use super::*;
@@ -120,6 +130,9 @@ mod tests {
             tag: Tag(tag),
         }
     }
+
+    /// Asks that a value may be used by several threads and may move to another one.
+    fn ask_shared<T: Send + Sync>(_: &T) {}
 
     #[test]
     fn keeps_each_frames_protectors(rt: HostRuntime) -> Result<(), Fail> {
@@ -136,8 +149,11 @@ mod tests {
         frames.reserve()?;
         frames.push(prov(3));
         assert_eq!(rt; frames.top(), [prov(5), prov(3)].as_slice());
+        let copy = frames.copy()?;
         frames.pop_frame();
         assert_eq!(rt; frames.top(), [prov(2)].as_slice());
+        assert_eq!(rt; copy.top(), [prov(5), prov(3)].as_slice());
+        ask_shared(&copy);
         Ok(())
     }
 }

@@ -1,4 +1,5 @@
-//! The protectors of a thread's frames: for each frame the provenances whose nodes its entry retags made.
+//! The protectors of a thread's frames: for each frame the provenances whose nodes its entry retags
+//! made.
 #![tactic(auto)]
 
 mod frame;

@@ -1,5 +1,5 @@
 -- Lemmas on runs and the bytes that they stand for.
-use Rattle.std.proofs.Common.{◌≡◌, ℕ, zero, suc, ◌+◌, ◌<◌, ◌≤◌, List, [], ◌∷◌, length, get_or, set, map, replicate, Bool, true, false, cond, ◌⊎◌, refl, sym, ap, subst, ◌∙◌, inl, inr, arith, nat_lt, nat_le, rules, Some, All}
+use Rattle.std.proofs.Common.{◌≡◌, ℕ, zero, suc, ◌+◌, ◌<◌, ◌≤◌, List, [], ◌∷◌, length, get_or, set, map, replicate, ◌-◌, ◌++◌, drop, take, Bool, true, false, cond, ◌⊎◌, refl, sym, ap, subst, ◌∙◌, inl, inr, arith, nat_lt, nat_le, rules, Some, All}
 use Rattle.std.proofs.lemmas.Bool.Decides.{nat_tests}
 use Rattle.std.proofs.lemmas.List.{same_lists, length-replicate, get_or-replicate, places}
 use Rattle.std.proofs.lemmas.List.FromFn.{length-map-range_with_len, get_or-map-range_with_len}
@@ -129,8 +129,14 @@ value_at-put len low at b k first v d [] h lt e there = absurd (omega arith)
 value_at-put len low at b zero first v d (r ∷ rs) h lt e there = grind (arith, nat_tests, h.0, e, there, value_at-after len r.start at b v r.value rs h.1 lt)
 value_at-put len low at b (suc k) first v d (r ∷ rs) h lt e there = grind (arith, nat_tests, h.0, e, there, rising-above len r.start rs k d h.1, runs_until-bound at rs, value_at-put len r.start at b k r.value v d rs h.1 lt)
 
+-- what is written, with the place where it ends
+overwrite-parts : {T : Type 0} (from end : ℕ) (v : T) (xs : List T) → from ≤ end → overwrite from end v xs ≡ take from xs ++ replicate (end - from) v ++ drop end xs
+overwrite-parts from end v xs le =
+    let long : from + length (replicate (end - from) v) ≡ end = omega (arith, length-replicate (end - from) v) in
+    ap (λ n. take from xs ++ replicate (end - from) v ++ drop n xs) long
+
 pub get_or-overwrite : {T : Type 0} (from end b : ℕ) (v d : T) (xs : List T) → from ≤ end → end ≤ length xs → b < length xs → get_or (overwrite from end v xs) b d ≡ cond (nat_le from b) (cond (nat_lt b end) v (get_or xs b d)) (get_or xs b d)
-get_or-overwrite from end b v d xs le within lt = grind (arith, nat_tests, places)
+get_or-overwrite from end b v d xs le within lt = rw (overwrite-parts from end v xs le) (grind (arith, nat_tests, places))
 
 pub slice_get-bytes_of : {T : Type 0} (len : ℕ) (first : T) (rs : List (Run T)) (at : ℕ) → at < length (bytes_of len first rs) → slice_get (bytes_of len first rs) at ≡ Some (value_at first rs at)
 slice_get-bytes_of len first rs at lt =
@@ -165,7 +171,7 @@ pub next_start-starts_of : {T : Type 0} (len at : ℕ) (rs : List (Run T)) → n
 next_start-starts_of len at rs = grind (arith, nat_tests)
 
 pub length-overwrite : {T : Type 0} (from end : ℕ) (v : T) (xs : List T) → from ≤ end → end ≤ length xs → length (overwrite from end v xs) ≡ length xs
-length-overwrite from end v xs le within = search (rules, places)
+length-overwrite from end v xs le within = rw (overwrite-parts from end v xs le) (search (rules, places))
 
 -- the bytes after a write, by what each byte is
 pub overwritten : {T : Type 0} (len from end : ℕ) (f g v : T) (rs ss : List (Run T)) → from ≤ end → end ≤ len →

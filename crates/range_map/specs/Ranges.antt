@@ -1,6 +1,7 @@
 -- What contracts see of a range map, and the words on it.
 use Rattle.std.specs.Prelude.{◌≡◌, ℕ, ◌+◌, ◌-◌, ◌<◌, List, [], ◌∷◌, ◌++◌, length, Bool, All, Some, slice_get, false, take, drop, replicate, filter, nat_lt, nat_le, ◌||◌, ◌==◌, if◌then◌else◌}
 use Rattle.std.specs.List.Sorted.{IsStrictlyIncreasing}
+use Rattle.bsan_ids.specs.Lists.{put}
 
 -- one value per byte, the rising run starts, and how many run starts may be added without memory
 pub record Ranges (T : Type 0) : Type 0 where
@@ -35,7 +36,7 @@ next_start len at (s ∷ ss) = if nat_lt at s then s else next_start len at ss
 
 -- the list with `value` from `from` to before `end`
 abbrev pub overwrite : {T : Type 0} → ℕ → ℕ → T → List T → List T
-overwrite from end value xs = take from xs ++ replicate (end - from) value ++ drop end xs
+overwrite from end value xs = put from (replicate (end - from) value) xs
 
 -- whether a run that begins at `s` stays when the bytes from `from` to before `end` are written
 abbrev pub stays : ℕ → ℕ → ℕ → Bool

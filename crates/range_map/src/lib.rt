@@ -1,12 +1,12 @@
 //! A list with one value per byte, kept as runs of bytes that have one value.
 #![tactic(auto)]
 
-ghost use Rattle.std.specs.Prelude.{◌≡◌, ℕ, ◌+◌, ◌-◌, ◌*◌, ◌<◌, ◌≤◌, ◌↔◌, List, [], ◌∷◌, ◌++◌, length, IfOk, OnOk, OnErr, IsTrue, slice_get, Bool, true, take, replicate, Some, vec_len, vec_capacity};
+ghost use Rattle.std.specs.Prelude.{◌≡◌, ℕ, ◌+◌, ◌-◌, ◌*◌, ◌<◌, ◌≤◌, ◌↔◌, List, [], ◌∷◌, ◌++◌, length, IfOk, IsOk, OnOk, OnErr, IsTrue, slice_get, Bool, true, take, replicate, Some, vec_len, vec_capacity};
 ghost use Rattle.std.specs.List.{filter};
 ghost use Rattle.range_map.specs.Ranges.{stays, with_start, with_end, has_start, next_start, overwrite, starts_after_set, boundaries, IsRanges};
 ghost use Rattle.range_map.specs.Runs.{runs_until, run_at, compacted, IsRising};
 
-use bsan_ids::{NoMemory, Span};
+use bsan_ids::{Copied, NoMemory, Span, copy_vec};
 use std::alloc::Global;
 use std::marker::Model;
 
@@ -99,6 +99,10 @@ fn compact<T: Copy + Eq>(first: T, later: &mut [Run<T>]) -> usize
 
 impl<T: Copy + Eq> RangeMap<T> {
     /// `len` bytes, at least one, in one run with this value.
+    ///
+    /// # Errors
+    ///
+    /// `NoMemory`: out of memory.
     pub fn new(alloc: Global, len: u32, value: T) -> Result<RangeMap<T>, NoMemory>
         requires { 1 ≤ len }
         ensures bytes { IfOk result (λ m. m.bytes ≡ replicate len value) }
@@ -139,20 +143,25 @@ impl<T: Copy + Eq> RangeMap<T> {
     pub fn soundness(&self)
         ensures { IsRanges self.now }
     {
+        // read, so that the proof knows what the map's type keeps
         let _ = &self.len;
     }
 
-    /// Makes room for `runs` more run starts. Values and run starts stay, without memory too.
+    /// Makes room for `runs` more run starts, where there isn't as much yet.
+    ///
+    /// # Errors
+    ///
+    /// `NoMemory`: out of memory, where there was less room. The map is as before.
     pub fn reserve(&mut self, runs: u32) -> Result<(), NoMemory>
         ensures room { OnOk result (runs ≤ self.new.spare) }
+        ensures succeeds { runs ≤ self.old.spare → IsOk result }
         ensures bytes { self.new.bytes ≡ self.old.bytes }
         ensures starts { self.new.starts ≡ self.old.starts }
         ensures spare { self.old.spare ≤ self.new.spare }
+        ensures err { OnErr result (self.new ≡ self.old) }
     {
-        match self.later.reserve(runs as usize) {
-            Ok(()) => Ok(()),
-            Err(_) => Err(NoMemory),
-        }
+        self.later.reserve(runs as usize)?;
+        Ok(())
     }
 
     /// Lets a run begin at the byte `at`, which lies below the length. It takes room for one run
@@ -167,13 +176,12 @@ impl<T: Copy + Eq> RangeMap<T> {
         let run = run_with(self.first, &self.later, at);
         if run.start < at {
             let index = runs_up_to(&self.later, at);
-            let _ = self.later.insert(
-                index,
-                Run {
-                    start: at,
-                    value: run.value,
-                },
-            );
+            let split = Run {
+                start: at,
+                value: run.value,
+            };
+            // there is room for it, so it succeeds
+            let _ = self.later.insert(index, split);
         }
     }
 
@@ -217,6 +225,7 @@ impl<T: Copy + Eq> RangeMap<T> {
         ensures starts { self.new.starts ≡ starts_after_set (length self.old.bytes) span.start (span.start + span.len) self.old.starts }
         ensures spare { self.old.spare ≤ self.new.spare + 2 }
     {
+        // that the end is no more than the length, and so doesn't wrap, is known once this is read
         let _len = self.len;
         let end = span.start + span.len;
         self.end_at(end);
@@ -225,8 +234,8 @@ impl<T: Copy + Eq> RangeMap<T> {
         self.put(span.start, value);
     }
 
-    /// Joins neighbours that have one value. It needs that `==` of the values is identity, since
-    /// the list couldn't stay as it was else.
+    /// Joins neighbours that have one value. It needs that `==` of the values is identity: with
+    /// another `==` the list couldn't stay as it was.
     pub fn merge(&mut self)
         requires { (a : T) → (b : T) → IsTrue (T.eq a b) ↔ (a ≡ b) }
         ensures bytes { self.new.bytes ≡ self.old.bytes }
@@ -239,10 +248,29 @@ impl<T: Copy + Eq> RangeMap<T> {
     }
 }
 
+impl<T: Copy> Copied for Run<T> {
+    fn copy(&self) -> Result<Run<T>, NoMemory> {
+        Ok(*self)
+    }
+}
+
+impl<T: Copy> Copied for RangeMap<T> {
+    fn copy(&self) -> Result<RangeMap<T>, NoMemory> {
+        Ok(RangeMap {
+            first: self.first,
+            later: copy_vec(&self.later)?,
+            len: self.len,
+        })
+    }
+}
+
 #[cfg(test)]
 mod tests {
     use super::*;
     use std::test::Fail;
+
+    /// Asks that a value may be used by several threads and may move to another one.
+    fn ask_shared<T: Send + Sync>(_: &T) {}
 
     #[test]
     fn splits_and_merges_65536_bytes(rt: HostRuntime) -> Result<(), Fail> {
@@ -268,6 +296,19 @@ mod tests {
         assert_eq!(rt; map.get(65_532), 7);
         assert_eq!(rt; map.get(65_531), 0);
         assert_eq!(rt; map.get(0), 3);
+        ask_shared(&map);
+        Ok(())
+    }
+
+    #[test]
+    fn copies_are_equal(rt: HostRuntime) -> Result<(), Fail> {
+        let mut map = RangeMap::new(rt.alloc(), 2, 0_u8)?;
+        map.reserve(1)?;
+        map.split_at(1);
+        map.put(1, 9);
+        let copy = map.copy()?;
+        assert_eq!(rt; copy.run_end(0), 1);
+        assert_eq!(rt; copy.get(1), 9);
         Ok(())
     }
 }

@@ -4,12 +4,13 @@ use Rattle.std.specs.List.{list_any, flat_map}
 use Rattle.std.specs.Fmt.{decimal}
 use Rattle.history.specs.declared.entry.Entry.{Entry}
 use Rattle.history.specs.declared.entry.Request.{Request}
-use Rattle.history.specs.declared.entry.Request.TheVariants.{Make, Print}
+use Rattle.history.specs.declared.entry.Request.TheVariants.{Print}
 use Rattle.history.specs.declared.log.End.{End}
 use Rattle.history.specs.declared.log.End.TheVariants.{Trapped, StepLimit, TurnLimit, NoMemory}
 use Rattle.history.specs.declared.log.ThreadLog.{ThreadLog}
 use Rattle.history.specs.declared.log.AllocLog.{AllocLog}
 use Rattle.history.specs.declared.record.RunRecord.{RunRecord}
+use Rattle.history.specs.Histories.{is_make_step}
 use Rattle.history.specs.Records.{merged, first_violations, violates, has_violation, HasDistinctStamps}
 use Rattle.report.specs.Violation.{violation_line, IsDescribable}
 use Rattle.report.specs.End.{end_line}
@@ -67,7 +68,7 @@ is_trap _ = false
 abbrev pub any_end : (End → Bool) → RunRecord → Bool
 any_end test kept = list_any (λ log. test log.end) kept.threads
 
--- 9 for want of memory, else 6 for a limit, else 5 for a trap, else 1 for a violation, else 0
+-- 9 for out of memory, else 6 for a limit, else 5 for a trap, else 1 for a violation, else 0
 abbrev pub status_of : RunRecord → ℕ
 status_of kept =
     if any_end is_no_memory kept then 9

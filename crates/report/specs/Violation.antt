@@ -1,7 +1,6 @@
 -- The line of a violation: which step it was, what it did, and why that broke the rules.
 use Rattle.std.specs.Prelude.{ℕ, ◌+◌, ◌==◌, Bool, true, false, IsTrue, IsSome, Option, Some, None, List, [], ◌∷◌, ◌++◌, length, codes, if◌then◌else◌}
 use Rattle.std.specs.Fmt.{decimal}
-use Rattle.bsan_ids.specs.declared.numbers.AllocNo.{AllocNo}
 use Rattle.bsan_ids.specs.declared.numbers.Prov.{Prov}
 use Rattle.perm_table.specs.declared.Perm.{Perm}
 use Rattle.eager_tree.specs.declared.violation.Violation.{Violation}
@@ -13,38 +12,39 @@ use Rattle.history.specs.declared.entry.Verdict.{Verdict}
 use Rattle.history.specs.declared.entry.Verdict.TheVariants.{Clean, Closed, Violated}
 use Rattle.ir_ast.specs.Words.{width_bytes, ty_bytes}
 use Rattle.history.specs.Merge.{stamp_of}
+use Rattle.history.specs.Restriction.{number_of}
 use Rattle.ir_ast.specs.Keywords.{kind_word}
 use Rattle.report.specs.Words.{perm_name}
 
--- a word and a span of bytes, by its first offset and the offset behind its last
+-- a word and a span of bytes, by its first offset and the offset after its last
 abbrev pub span_text : List ℕ → ℕ → ℕ → List ℕ
 span_text word at len = word ++ (codes " " ++ (decimal at ++ (codes ".." ++ decimal (at + len))))
 
--- what a step does to an allocation
-abbrev pub deed_text : Request → List ℕ
-deed_text (Load at ty prov) = span_text (codes "read") at (ty_bytes ty)
-deed_text (CopyOut at len prov) = span_text (codes "read") at len
-deed_text (Store at ty value carried prov) = span_text (codes "write") at (ty_bytes ty)
-deed_text (Modify at width op value prov) = span_text (codes "write") at (width_bytes width)
-deed_text (CmpXchg at width expected value prov) = span_text (codes "write") at (width_bytes width)
-deed_text (CopyIn at piece prov) = span_text (codes "write") at (length piece)
-deed_text (Retag at len kind guard prov) = codes "retag " ++ span_text (kind_word kind) at len
-deed_text (Free at stack prov) = codes "free"
-deed_text (EndProtector tag) = codes "end of protector " ++ decimal tag.0
-deed_text (Make size place) = []
-deed_text (Print value) = []
-deed_text (Host number first second) = []
-deed_text (Spawn function) = []
-deed_text (Join child) = []
+-- the operation on an allocation that a request asks
+abbrev pub operation_text : Request → List ℕ
+operation_text (Load at ty prov) = span_text (codes "read") at (ty_bytes ty)
+operation_text (CopyOut at len prov) = span_text (codes "read") at len
+operation_text (Store at ty value carried prov) = span_text (codes "write") at (ty_bytes ty)
+operation_text (Modify at width op value prov) = span_text (codes "write") at (width_bytes width)
+operation_text (CmpXchg at width expected value prov) = span_text (codes "write") at (width_bytes width)
+operation_text (CopyIn at piece prov) = span_text (codes "write") at (length piece)
+operation_text (Retag at len kind guard prov) = codes "retag " ++ span_text (kind_word kind) at len
+operation_text (Free at stack prov) = codes "free"
+operation_text (EndProtector tag) = codes "end of protector " ++ decimal tag.0
+operation_text (Make size place) = []
+operation_text (Print value) = []
+operation_text (Host number first second) = []
+operation_text (Spawn function) = []
+operation_text (Join child) = []
 
--- whether a step is one of those
-abbrev pub has_deed : Request → Bool
-has_deed (Make size place) = false
-has_deed (Print value) = false
-has_deed (Host number first second) = false
-has_deed (Spawn function) = false
-has_deed (Join child) = false
-has_deed _ = true
+-- whether a request asks one of those
+abbrev pub is_operation : Request → Bool
+is_operation (Make size place) = false
+is_operation (Print value) = false
+is_operation (Host number first second) = false
+is_operation (Spawn function) = false
+is_operation (Join child) = false
+is_operation _ = true
 
 -- whose the tag is, where it is another allocation's
 abbrev pub owner_text : ℕ → ℕ → List ℕ
@@ -55,33 +55,28 @@ abbrev pub tag_text : ℕ → Option Prov → List ℕ
 tag_text alloc None = codes " through no tag"
 tag_text alloc (Some prov) = codes " through tag " ++ (decimal prov.tag.0 ++ owner_text alloc prov.alloc.0)
 
-abbrev pub through_text : ℕ → Request → List ℕ
-through_text alloc (Load at ty prov) = tag_text alloc prov
-through_text alloc (CopyOut at len prov) = tag_text alloc prov
-through_text alloc (Store at ty value carried prov) = tag_text alloc prov
-through_text alloc (Modify at width op value prov) = tag_text alloc prov
-through_text alloc (CmpXchg at width expected value prov) = tag_text alloc prov
-through_text alloc (CopyIn at piece prov) = tag_text alloc prov
-through_text alloc (Retag at len kind guard prov) = tag_text alloc prov
-through_text alloc (Free at stack prov) = tag_text alloc prov
-through_text alloc _ = []
+abbrev pub provenance_text : ℕ → Request → List ℕ
+provenance_text alloc (Load at ty prov) = tag_text alloc prov
+provenance_text alloc (CopyOut at len prov) = tag_text alloc prov
+provenance_text alloc (Store at ty value carried prov) = tag_text alloc prov
+provenance_text alloc (Modify at width op value prov) = tag_text alloc prov
+provenance_text alloc (CmpXchg at width expected value prov) = tag_text alloc prov
+provenance_text alloc (CopyIn at piece prov) = tag_text alloc prov
+provenance_text alloc (Retag at len kind guard prov) = tag_text alloc prov
+provenance_text alloc (Free at stack prov) = tag_text alloc prov
+provenance_text alloc _ = []
 
--- the number of the allocation that a step names
-abbrev pub number_of : Option AllocNo → ℕ
-number_of (Some number) = number.0
-number_of None = 0
-
--- an entry that a violation's line can speak of: its step does something to an allocation, and it names that
+-- an entry that a violation's line can describe: its request is an operation on an allocation, and it names that
 pub record IsDescribable (entry : Entry) : Type 0 where
-  pub deed : IsTrue (has_deed entry.request)
+  pub operation : IsTrue (is_operation entry.request)
   pub alloc : IsSome entry.alloc
 
--- what the step did, and, where that is asked for, through which pointer
+-- the operation, and, where that is asked for, through which pointer
 abbrev pub what_text : Bool → Entry → List ℕ
-what_text through entry = deed_text entry.request
-    ++ (if through then through_text (number_of entry.alloc) entry.request else [])
+what_text through entry = operation_text entry.request
+    ++ (if through then provenance_text (number_of entry.alloc) entry.request else [])
 
--- a node that stood against a step, with its state there
+-- a node that denies an access, with its state there
 abbrev pub node_text : List ℕ → ℕ → Perm → ℕ → List ℕ
 node_text kind node perm offset = kind ++ (codes "node " ++ (decimal node
     ++ (codes " is " ++ (perm_name perm ++ (codes " at byte " ++ decimal offset)))))

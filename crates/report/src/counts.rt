@@ -1,5 +1,6 @@
 //! How many steps and allocations a run made, and on how many allocations there is a violation.
 ghost use Rattle.std.specs.Prelude.{◌≡◌, ◌^◌, ◌<◌, count_by};
+ghost use Rattle.history.specs.Histories.{is_make_step};
 ghost use Rattle.report.specs.Report as report;
 
 use history::{Entry, Request};
@@ -17,13 +18,13 @@ pub fn step_count(logs: &[ThreadLog]) -> u128
 }
 
 fn is_make(entry: &Entry) -> bool
-    ensures { result ≡ report.makes entry.now }
+    ensures { result ≡ is_make_step entry.now }
 {
     matches!(entry.request, Request::Make { .. })
 }
 
 fn makes_in(entries: &[Entry]) -> u64
-    ensures { result ≡ count_by report.makes entries.now }
+    ensures { result ≡ count_by is_make_step entries.now }
 {
     let mut makes = 0;
     for entry in entries {

@@ -1,6 +1,6 @@
-//! What a step did to an allocation, and through which pointer.
+//! The operation of a step on an allocation, and through which pointer.
 ghost use Rattle.std.specs.Prelude.{◌≡◌, IfOk, string_bytes};
-ghost use Rattle.report.specs.Violation.{span_text, deed_text, owner_text, tag_text, through_text};
+ghost use Rattle.report.specs.Violation.{span_text, operation_text, owner_text, tag_text, provenance_text};
 
 use bsan_ids::{AllocNo, Prov};
 use history::Request;
@@ -14,9 +14,9 @@ fn span(alloc: Global, word: &str, at: u32, len: usize) -> Result<String, AllocE
     format!(in alloc; "{word} {at}..{end}")
 }
 
-/// What the step of a request did; nothing where it did nothing to an allocation.
-pub fn deed(alloc: Global, request: &Request) -> Result<String, AllocError>
-    ensures { IfOk result (λ text. string_bytes text ≡ deed_text request.now) }
+/// The operation on an allocation that a request asks; nothing where it asks none.
+pub fn operation(alloc: Global, request: &Request) -> Result<String, AllocError>
+    ensures { IfOk result (λ text. string_bytes text ≡ operation_text request.now) }
 {
     match request {
         Request::Load { at, ty, .. } => span(alloc, "read", *at, ty.bytes() as usize),
@@ -67,8 +67,8 @@ fn tag(alloc: Global, number: AllocNo, prov: Option<Prov>) -> Result<String, All
 }
 
 /// Through which pointer the allocation of this number was used.
-pub fn through(alloc: Global, number: AllocNo, request: &Request) -> Result<String, AllocError>
-    ensures { IfOk result (λ text. string_bytes text ≡ through_text number.0 request.now) }
+pub fn provenance(alloc: Global, number: AllocNo, request: &Request) -> Result<String, AllocError>
+    ensures { IfOk result (λ text. string_bytes text ≡ provenance_text number.0 request.now) }
 {
     match request {
         Request::Load { prov, .. }

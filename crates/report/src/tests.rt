@@ -1,13 +1,13 @@
 ghost use Rattle.std.specs.Prelude.{◌≡◌, IfOk, IsTrue};
 ghost use Rattle.history.specs.Records.{violates};
-ghost use Rattle.report.specs.Violation.{has_deed, IsDescribable};
+ghost use Rattle.report.specs.Violation.{is_operation, IsDescribable};
 ghost use Rattle.report.specs.Report.{IsReportable};
 
 use crate::{part, status_of, text_of, violation_line, what};
 use bsan_ids::{AllocNo, Counters, ListOf, NoMemory, Prov, Stamp, Tag, ThreadNo};
+use eager_tree::Violation;
 use history::{Entry, Piece, Plain, Reply, Request, Trap, Verdict};
 use ir_ast::{ModifyOp, Place, Ty, Width};
-use eager_tree::Violation;
 use perm_table::{Guard, Perm, RetagKind};
 use run_record::{AllocLog, End, RunRecord, ThreadLog};
 use std::alloc::Global;
@@ -33,7 +33,7 @@ fn denied(offset: u32, node: u64, perm: Perm, local: bool) -> Violation {
 }
 
 fn violated(request: Request, violation: Violation) -> Entry
-    requires { IsTrue (has_deed request) }
+    requires { IsTrue (is_operation request) }
     ensures described { IsDescribable result }
     ensures violation { IsTrue (violates result) }
 {
@@ -58,7 +58,7 @@ fn check_line(
     violation: Violation,
     wanted: &str,
 ) -> Result<(), NoMemory>
-    requires { IsTrue (has_deed request) }
+    requires { IsTrue (is_operation request) }
 {
     let start = "violation on allocation 3 by thread 2 at instruction 4, step 9: ";
     let wanted = format!(in alloc; "{start}{wanted}\n")?;

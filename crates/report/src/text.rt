@@ -141,7 +141,7 @@ fn prints(alloc: Global, kept: &RunRecord) -> Result<String, NoMemory>
     requires { IsReportable kept.now }
     ensures { IfOk result (λ lines. string_bytes lines ≡ report.prints kept.now) }
 {
-    let entries = kept.merged(alloc)?;
+    let entries = kept.merged()?;
     Ok(print_lines(alloc, &entries)?)
 }
 
@@ -149,19 +149,19 @@ fn violations(alloc: Global, kept: &RunRecord) -> Result<String, NoMemory>
     requires { IsReportable kept.now }
     ensures { IfOk result (λ lines. string_bytes lines ≡ report.violation_lines kept.now) }
 {
-    let found = kept.first_violations(alloc)?;
+    let found = kept.first_violations()?;
     Ok(violation_lines(alloc, &found)?)
 }
 
 /// The lines of one part of the report, each with its newline: what was printed (1), the first
 /// violations (2), the threads' ends (3), the summary (4), the status (5).
 ///
-/// In the record no stamp may stand twice, and each violation has to be of a step that did something
-/// to an allocation and names it; `item` is 1 to 5.
+/// In the record no stamp may be twice, and each violation has to be of an operation on an allocation
+/// that its entry names; `item` is 1 to 5.
 ///
 /// # Errors
 ///
-/// `NoMemory`: want of memory.
+/// `NoMemory`: out of memory.
 pub fn part(alloc: Global, kept: &RunRecord, item: u8) -> Result<Vec<u8>, NoMemory>
     requires reportable { IsReportable kept.now }
     requires least { 1 ≤ item }
@@ -180,12 +180,12 @@ pub fn part(alloc: Global, kept: &RunRecord, item: u8) -> Result<Vec<u8>, NoMemo
 
 /// The report of a run: its five parts in order.
 ///
-/// In the record no stamp may stand twice, and each violation has to be of a step that did something
-/// to an allocation and names it.
+/// In the record no stamp may be twice, and each violation has to be of an operation on an allocation
+/// that its entry names.
 ///
 /// # Errors
 ///
-/// `NoMemory`: want of memory.
+/// `NoMemory`: out of memory.
 pub fn text_of(alloc: Global, kept: &RunRecord) -> Result<Vec<u8>, NoMemory>
     requires { IsReportable kept.now }
     ensures { IfOk result (λ text. text.items ≡ report.text_of kept.now) }

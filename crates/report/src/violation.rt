@@ -1,20 +1,21 @@
 //! The line of a violation.
 ghost use Rattle.std.specs.Prelude.{◌≡◌, IfOk, IsTrue, string_bytes};
 ghost use Rattle.history.specs.Records.{violates};
+ghost use Rattle.history.specs.Restriction.{number_of};
 ghost use Rattle.report.specs.Violation.{IsDescribable, what_text, node_text, why_text};
 ghost use Rattle.report.specs.Violation as lines;
 
-use crate::step::{deed, through};
+use crate::step::{operation, provenance};
 use crate::words::perm_name;
 use bsan_ids::{AllocNo, NoMemory, Tag};
-use history::{Entry, Verdict};
 use eager_tree::Violation;
+use history::{Entry, Verdict};
 use perm_table::Perm;
 use std::alloc::{AllocError, Global};
 
 fn number_of(entry: &Entry) -> AllocNo
     requires { IsDescribable entry.now }
-    ensures { result.0 ≡ lines.number_of entry.now.alloc }
+    ensures { result.0 ≡ number_of entry.now.alloc }
 {
     match entry.alloc {
         Some(number) => number,
@@ -26,21 +27,21 @@ fn what_string(alloc: Global, entry: &Entry, with_tag: bool) -> Result<String, A
     requires { IsDescribable entry.now }
     ensures { IfOk result (λ text. string_bytes text ≡ what_text with_tag entry.now) }
 {
-    let mut text = deed(alloc, &entry.request)?;
+    let mut text = operation(alloc, &entry.request)?;
     if with_tag {
-        text.push_str(through(alloc, number_of(entry), &entry.request)?.as_str())?;
+        text.push_str(provenance(alloc, number_of(entry), &entry.request)?.as_str())?;
     }
     Ok(text)
 }
 
-/// What the step of an entry did to its allocation, as `write 0..8`, and, where `through` is true,
+/// The operation of an entry on its allocation, as `write 0..8`, and, where `through` is true,
 /// through which pointer, as ` through tag 3`.
 ///
-/// The request has to do something to an allocation, which the entry names.
+/// The request has to be an operation on an allocation, which the entry names.
 ///
 /// # Errors
 ///
-/// `NoMemory`: want of memory.
+/// `NoMemory`: out of memory.
 pub fn what(alloc: Global, entry: &Entry, through: bool) -> Result<Vec<u8>, NoMemory>
     requires { IsDescribable entry.now }
     ensures { IfOk result (λ text. text.items ≡ what_text through entry.now) }
@@ -120,12 +121,12 @@ pub fn violation_string(alloc: Global, entry: &Entry) -> Result<String, AllocErr
 
 /// The line of a violation, with its newline.
 ///
-/// The entry's verdict has to be a violation, its request to do something to an allocation, which
-/// the entry names.
+/// The entry's verdict has to be a violation, its request an operation on an allocation, which the
+/// entry names.
 ///
 /// # Errors
 ///
-/// `NoMemory`: want of memory.
+/// `NoMemory`: out of memory.
 pub fn violation_line(alloc: Global, entry: &Entry) -> Result<Vec<u8>, NoMemory>
     requires described { IsDescribable entry.now }
     requires violation { IsTrue (violates entry.now) }

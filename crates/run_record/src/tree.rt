@@ -2,8 +2,8 @@
 ghost use Rattle.std.specs.Prelude.{◌≡◌, ◌∷◌, ◌++◌, IfOk};
 ghost use Rattle.run_record.specs.Flatten.{all_logs};
 
+use bsan_ids::{Copied, NoMemory};
 use history::ThreadLog;
-use bsan_ids::NoMemory;
 use std::marker::Model;
 
 /// A thread's log and those of the threads that it started. A contract sees the list of its logs:
@@ -42,7 +42,7 @@ impl ThreadTree {
     ///
     /// # Errors
     ///
-    /// `NoMemory`: want of memory. The tree is given up.
+    /// `NoMemory`: out of memory. The tree is dropped.
     pub fn into_logs(self, into: &mut Vec<ThreadLog>) -> Result<(), NoMemory>
         ensures { IfOk result (λ done. into.new.items ≡ into.old.items ++ self) }
     {
@@ -60,4 +60,31 @@ fn append_logs(children: Vec<ThreadTree>, into: &mut Vec<ThreadLog>) -> Result<(
         child.into_logs(into)?;
     }
     Ok(())
+}
+
+impl Copied for ThreadTree {
+    fn copy(&self) -> Result<ThreadTree, NoMemory> {
+        copy_tree(self)
+    }
+}
+
+#[cycle(copies)]
+fn copy_tree(tree: &ThreadTree) -> Result<ThreadTree, NoMemory>
+    ensures { IfOk result (λ copy. copy ≡ tree.now) }
+{
+    Ok(ThreadTree {
+        log: tree.log.copy()?,
+        children: copy_trees(&tree.children)?,
+    })
+}
+
+#[cycle(copies)]
+fn copy_trees(trees: &Vec<ThreadTree>) -> Result<Vec<ThreadTree>, NoMemory>
+    ensures { IfOk result (λ copies. copies.items ≡ trees.now.items) }
+{
+    let mut copies = Vec::new(*trees.allocator());
+    for tree in trees.as_slice() {
+        copies.push(copy_tree(tree)?)?;
+    }
+    Ok(copies)
 }

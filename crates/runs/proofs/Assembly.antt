@@ -4,10 +4,11 @@ use Rattle.std.specs.List.{AllByRecursion}
 use Rattle.std.proofs.lemmas.List.Elements.{recursion_from_All}
 use Rattle.history.specs.declared.entry.Entry.{Entry}
 use Rattle.bsan_ids.specs.declared.numbers.ThreadNo.{ThreadNo}
+use Rattle.runs.specs.Parts.{Has}
 use Rattle.runs.specs.Machine.{Machine, Memory}
 use Rattle.runs.specs.Interleaving.{Allowed}
-use Rattle.runs.specs.Stamps.{Has, IsTied}
-use Rattle.runs.specs.Merge.{merged, IsMerge}
+use Rattle.runs.specs.Stamps.{IsTied}
+use Rattle.runs.specs.Merge.{merged, IsPartwiseMerge}
 use Rattle.runs.specs.Right.{end_of}
 use Rattle.runs.specs.Theorem.{PromisesMakeOneRun}
 use Rattle.runs.proofs.MergeLaws.{merged_is_merge}
@@ -21,7 +22,7 @@ each_has P (e ∷ es) x h (inr g) = each_has P es x h.1 g
 
 pub promises_make_one_run : (M : Machine) (O : Memory) (A : Allowed) → PromisesMakeOneRun M O A
 promises_make_one_run M O A limits main start logs allocs p =
-    let merge : IsMerge logs (merged logs) = merged_is_merge logs p.threads.rise p.merges in
+    let merge : IsPartwiseMerge logs (merged logs) = merged_is_merge logs p.threads.rise p.merges in
     let own : OwnEntries logs = λ l x g h.
     (let P : Entry → Type 0 = λ e. e.thread ≡ l.number in
     ap (λ (n : ThreadNo). n.0) (each_has P l.entries x (recursion_from_All P l.entries (p.runs.runs l g).own) h)) in

@@ -4,11 +4,10 @@ use Rattle.std.specs.Prelude.{count_by}
 use Rattle.std.proofs.lemmas.List.Sums.{sum_by-cons}
 use Rattle.history.specs.declared.entry.Entry.{Entry}
 use Rattle.history.specs.declared.log.ThreadLog.{ThreadLog}
-use Rattle.history.specs.Merge.{put_by_stamp}
-use Rattle.runs.specs.Merge.{merged_with}
+use Rattle.history.specs.Merge.{by_stamp, put_by_stamp}
+use Rattle.runs.specs.Parts.{Has}
 use Rattle.runs.specs.Right.{AtLeast}
-use Rattle.runs.specs.Stamps.{Has}
-use Rattle.runs.proofs.MergeLaws.{at_most_tells}
+use Rattle.runs.proofs.MergeLaws.{merged_with, at_most_tells}
 
 -- 1 where the entry passes
 abbrev pub one_if : (Entry → Bool) → Entry → ℕ
@@ -60,7 +59,7 @@ weigh_inserted w x (y ∷ ys) = elim (at_most_tells x.stamp.0 y.stamp.0) [
       rw miss.0 (let all : sum_by w (y ∷ put_by_stamp x ys) ≡ w x + sum_by w (y ∷ ys) = omega (arith, more, sum_by-cons w y (put_by_stamp x ys), sum_by-cons w y ys) in all)
 ]
 
-pub weigh_with : (w : Entry → ℕ) (xs ys : List Entry) → sum_by w (merged_with xs ys) ≡ sum_by w xs + sum_by w ys
+pub weigh_with : (w : Entry → ℕ) (xs ys : List Entry) → sum_by w (merged_with xs ys) ≡ sum_by w xs + sum_by w (by_stamp ys)
 weigh_with w [] ys = let none : sum_by w [] ≡ 0 = refl in omega (arith, none)
 weigh_with w (x ∷ xs) ys =
     let more = weigh_with w xs ys in
@@ -74,7 +73,7 @@ length_inserted x (y ∷ ys) = elim (at_most_tells x.stamp.0 y.stamp.0) [
   | inr miss ↦ rw miss.0 (ap suc (length_inserted x ys))
 ]
 
-pub length_with : (xs ys : List Entry) → length (merged_with xs ys) ≡ length xs + length ys
+pub length_with : (xs ys : List Entry) → length (merged_with xs ys) ≡ length xs + length (by_stamp ys)
 length_with [] ys = omega arith
 length_with (x ∷ xs) ys = let more = length_with xs ys in let one = length_inserted x (merged_with xs ys) in omega (arith, more, one)
 

@@ -6,8 +6,8 @@ use Rattle.std.proofs.lemmas.Bool.Decides.{eqb_tells, nat_tests}
 use Rattle.bsan_ids.specs.declared.numbers.AllocNo.{AllocNo}
 use Rattle.history.specs.declared.entry.Entry.{Entry}
 use Rattle.history.specs.Merge.{stamp_of}
-use Rattle.runs.specs.Parts.{of_alloc, names}
-use Rattle.runs.specs.Stamps.{Has, RisesFrom}
+use Rattle.runs.specs.Parts.{Has, of_alloc, names}
+use Rattle.runs.specs.Stamps.{RisesFrom}
 use Rattle.runs.proofs.MergeLaws.{above_first}
 
 stamps_above : (x n : ℕ) (es : List Entry) → x ≤ n → RisesFrom n es → AllByRecursion (λ y. nat_eq x y ≡ false) (map stamp_of es)

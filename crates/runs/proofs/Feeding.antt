@@ -4,12 +4,11 @@ use Rattle.std.specs.Prelude.{Some, None}
 use Rattle.std.specs.declared.option.Option.{Option}
 use Rattle.history.specs.declared.ask.Ask.TheVariants as ask
 use Rattle.history.specs.declared.entry.Entry.{Entry}
-use Rattle.runs.specs.Parts.{Answers, child_of}
+use Rattle.runs.specs.Parts.{Has, Answers, child_of}
 use Rattle.runs.specs.Machine.{Machine, MayGoOn, TurnsWithin, SettlesWithin}
 use Rattle.bsan_ids.specs.declared.numbers.Limits.{Limits}
 use Rattle.history.specs.declared.log.ThreadLog.{ThreadLog}
 use Rattle.runs.specs.Threads.{Feeds, StartsAs, IsThreadRun}
-use Rattle.runs.specs.Stamps.{Has}
 
 pub turns_one_more : (M : Machine) (limit n : ℕ) (s t : M.State) → TurnsWithin M limit n s t → M.ask t ≡ ask.Turn → MayGoOn M limit t → TurnsWithin M limit (suc n) s (M.turn t)
 turns_one_more M limit zero s t h asks may =

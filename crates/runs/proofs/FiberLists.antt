@@ -11,8 +11,8 @@ use Rattle.std.proofs.lemmas.Map.Keys.{IsDistinct-IsPermutation}
 use Rattle.std.proofs.lemmas.List.Elements.{All-from_recursion, recursion_from_All}
 use Rattle.history.specs.declared.entry.Entry.{Entry}
 use Rattle.history.specs.declared.entry.Plain.{Plain}
-use Rattle.runs.specs.Parts.{of_thread}
-use Rattle.runs.specs.Stamps.{Has, RisesFrom}
+use Rattle.runs.specs.Parts.{Has, of_thread}
+use Rattle.runs.specs.Stamps.{RisesFrom}
 use Rattle.runs.specs.Right.{Numbered, counting_from}
 use Rattle.runs.proofs.Tracking.{some_inj}
 

@@ -10,15 +10,14 @@ use Rattle.history.specs.declared.entry.Entry.{Entry}
 use Rattle.history.specs.declared.log.ThreadLog.{ThreadLog}
 use Rattle.runs.specs.Interleaving.{Allowed}
 use Rattle.runs.specs.Machine.{Machine, Memory}
-use Rattle.runs.specs.Parts.{child_of}
-use Rattle.runs.specs.Right.{HasLog, AtLeast}
-use Rattle.runs.specs.Stamps.{Has}
+use Rattle.runs.specs.Parts.{Has, child_of}
+use Rattle.runs.specs.Right.{AtLeast}
 use Rattle.runs.specs.Tree.{children_of, started_by, IsFamily, IsStarted, IsJoined, HasStopped, IsTree}
 use Rattle.runs.proofs.Counting.{at_least_later}
 use Rattle.runs.proofs.LogLists.{entry_weighs, some_log}
 use Rattle.runs.proofs.Weights.{equals, equals_same, sum_flat}
 
-module _ (xs ys : List ThreadLog) (more : (l : ThreadLog) → HasLog xs l → HasLog ys l) where
+module _ (xs ys : List ThreadLog) (more : (l : ThreadLog) → Has xs l → Has ys l) where
   pub family_more : (first : ThreadLog) (family : List ThreadLog) → IsFamily xs first family → IsFamily ys first family
   family_more first family f = record { own = f.own; among = λ l h. more l (f.among l h); closed = f.closed }
 
@@ -66,7 +65,7 @@ at_least_both P (suc n) m (x ∷ xs) ys (inl h) g =
     subst (λ k. AtLeast P k (x ∷ (xs ++ ys))) same (inl (h.0, at_least_both P n m xs ys h.1 g))
 at_least_both P (suc n) m (x ∷ xs) ys (inr h) g = at_least_later P (suc n + m) x (xs ++ ys) (at_least_both P (suc n) m xs ys h g)
 
-child_weighs : (ls : List ThreadLog) (l : ThreadLog) (e : Entry) (c : ℕ) → HasLog ls l → Has l.entries e → child_of e ≡ Some c → 1 ≤ sum_by (equals c) (flat_map children_of ls)
+child_weighs : (ls : List ThreadLog) (l : ThreadLog) (e : Entry) (c : ℕ) → Has ls l → Has l.entries e → child_of e ≡ Some c → 1 ≤ sum_by (equals c) (flat_map children_of ls)
 child_weighs [] l e c h g is = absurd h
 child_weighs (m ∷ ms) l e c (inl same) g is =
     let w : Entry → ℕ = λ x. sum_by (equals c) (started_by (child_of x)) in
@@ -82,11 +81,11 @@ child_weighs (m ∷ ms) l e c (inr h) g is =
 pub tree_family : (M : Machine) (O : Memory) (A : Allowed) (limits : Limits) (number : ThreadNo) (parent : Option ThreadNo) (function : ℕ) (first : M.State) (seen : ℕ) (logs : List ThreadLog) (idle_allocs idle_threads : List ℕ)
     → (t : IsTree M O A limits number parent function first seen logs idle_allocs idle_threads) → IsFamily logs t.own logs
 tree_family M O A limits number parent function first seen logs idle_allocs idle_threads t = record {
-  own = subst (λ ls. HasLog ls t.own) (sym t.parts) (inl refl);
+  own = subst (λ ls. Has ls t.own) (sym t.parts) (inl refl);
   among = λ l h. h;
   closed = λ l e c h g is.
       (let a = child_weighs logs l e c h g is in
       let b = t.children (equals c) in
       let found = some_log t.below c (omega (arith, a, b)) in
-      (found.0, subst (λ ls. HasLog ls found.0) (sym t.parts) (inr found.1), found.2));
+      (found.0, subst (λ ls. Has ls found.0) (sym t.parts) (inr found.1), found.2));
 }

@@ -24,7 +24,6 @@ pub mod ObjectLaws
 pub mod PlainMemory
 pub mod RightMerges
 pub mod RightErases
-pub mod MergesAgree
 pub mod Weights
 pub mod LogLists
 pub mod Countings

@@ -8,27 +8,26 @@ use Rattle.std.proofs.lemmas.List.Sorted.{IsPermutation-sym, All-permutation, su
 use Rattle.std.proofs.lemmas.List.Sums.{sum_by-cons, sum_by-append}
 use Rattle.history.specs.declared.entry.Entry.{Entry}
 use Rattle.history.specs.declared.log.ThreadLog.{ThreadLog}
-use Rattle.runs.specs.Merge.{merged, entries_of}
-use Rattle.runs.specs.Parts.{child_of}
-use Rattle.runs.specs.Right.{HasLog, NumbersRiseFrom, AtLeast, end_of}
-use Rattle.runs.specs.Stamps.{Has}
-use Rattle.runs.specs.Tree.{all_entries, numbers_of, children_of, started_by}
+use Rattle.runs.specs.Merge.{all_entries, merged, entries_of}
+use Rattle.runs.specs.Parts.{Has, child_of}
+use Rattle.runs.specs.Right.{NumbersRiseFrom, AtLeast, end_of}
+use Rattle.runs.specs.Tree.{numbers_of, children_of, started_by}
 use Rattle.runs.proofs.Counting.{weigh_with, at_least_later}
 use Rattle.runs.proofs.RightErases.{number_above}
 use Rattle.runs.proofs.Weights.{equals, equals_cases, equals_same, equals_other, sum_flat, sum_map}
 
-all_logs : (P : ThreadLog → Type 0) (ls : List ThreadLog) → ((l : ThreadLog) → HasLog ls l → P l) → AllByRecursion P ls
+all_logs : (P : ThreadLog → Type 0) (ls : List ThreadLog) → ((l : ThreadLog) → Has ls l → P l) → AllByRecursion P ls
 all_logs P [] h = tt
 all_logs P (l ∷ ls) h = (h l (inl refl), all_logs P ls (λ m g. h m (inr g)))
 
-each_log : (P : ThreadLog → Type 0) (ls : List ThreadLog) (l : ThreadLog) → AllByRecursion P ls → HasLog ls l → P l
+each_log : (P : ThreadLog → Type 0) (ls : List ThreadLog) (l : ThreadLog) → AllByRecursion P ls → Has ls l → P l
 each_log P [] l all h = absurd h
 each_log P (m ∷ ms) l all (inl same) = subst P same all.0
 each_log P (m ∷ ms) l all (inr h) = each_log P ms l all.1 h
 
-pub moved : (xs ys : List ThreadLog) → IsPermutation xs ys → (l : ThreadLog) → HasLog xs l → HasLog ys l
+pub moved : (xs ys : List ThreadLog) → IsPermutation xs ys → (l : ThreadLog) → Has xs l → Has ys l
 moved xs ys p l h =
-    let P : ThreadLog → Type 0 = λ m. HasLog ys m in
+    let P : ThreadLog → Type 0 = λ m. Has ys m in
     each_log P xs l (recursion_from_All P xs (All-permutation P ys xs (IsPermutation-sym xs ys p) (All-from_recursion P ys (all_logs P ys (λ m g. g))))) h
 
 pub flat_moved : (h : ℕ → ℕ) (f : ThreadLog → List ℕ) (xs ys : List ThreadLog) → IsPermutation xs ys → sum_by h (flat_map f ys) ≡ sum_by h (flat_map f xs)
@@ -42,7 +41,7 @@ numbers_moved h xs ys p = sum_map h (λ (l : ThreadLog). l.number.0) ys ∙ sum_
 
 pub weigh_merged : (w : Entry → ℕ) (ls : List ThreadLog) → sum_by w (merged ls) ≡ sum_by w (all_entries ls)
 weigh_merged w [] = refl
-weigh_merged w (l ∷ ls) = let more = weigh_merged w ls in omega (arith, more, weigh_with w l.entries (merged ls), sum_by-append w l.entries (all_entries ls))
+weigh_merged w (l ∷ ls) = let more = weigh_merged w ls in omega (arith, more, weigh_with w l.entries (all_entries ls), sum_by-append w l.entries (all_entries ls))
 
 pub weigh_children : (h : ℕ → ℕ) (ls : List ThreadLog) → sum_by (λ (e : Entry). sum_by h (started_by (child_of e))) (all_entries ls) ≡ sum_by h (flat_map children_of ls)
 weigh_children h [] = refl
@@ -57,21 +56,21 @@ entry_weighs w [] x h = absurd h
 entry_weighs w (e ∷ es) x (inl same) = let a = ap w same in omega (arith, a, sum_by-cons w e es)
 entry_weighs w (e ∷ es) x (inr h) = let a = entry_weighs w es x h in omega (arith, a, sum_by-cons w e es)
 
-pub log_weighs : (w : Entry → ℕ) (ls : List ThreadLog) (l : ThreadLog) (x : Entry) → HasLog ls l → Has l.entries x → w x ≤ sum_by w (all_entries ls)
+pub log_weighs : (w : Entry → ℕ) (ls : List ThreadLog) (l : ThreadLog) (x : Entry) → Has ls l → Has l.entries x → w x ≤ sum_by w (all_entries ls)
 log_weighs w [] l x h g = absurd h
 log_weighs w (m ∷ ms) l x (inl same) g = let a = entry_weighs w m.entries x (subst (λ (y : ThreadLog). Has y.entries x) (sym same) g) in omega (arith, a, sum_by-append w m.entries (all_entries ms))
 log_weighs w (m ∷ ms) l x (inr h) g = let a = log_weighs w ms l x h g in omega (arith, a, sum_by-append w m.entries (all_entries ms))
 
 -- numbers -----------------------------------------------------------------------
 
-pub some_log : (ls : List ThreadLog) (n : ℕ) → 1 ≤ sum_by (equals n) (numbers_of ls) → (l : ThreadLog) × HasLog ls l × (l.number.0 ≡ n)
+pub some_log : (ls : List ThreadLog) (n : ℕ) → 1 ≤ sum_by (equals n) (numbers_of ls) → (l : ThreadLog) × Has ls l × (l.number.0 ≡ n)
 some_log [] n le = absurd (omega (arith, le))
 some_log (l ∷ ls) n le = elim (equals_cases n l.number.0) [
   | inl hit ↦ (l, inl refl, hit.0)
   | inr miss ↦ (let none = miss.1 in let r = some_log ls n (omega (arith, le, none, sum_by-cons (equals n) l.number.0 (numbers_of ls))) in (r.0, inr r.1, r.2))
 ]
 
-pub number_there : (ls : List ThreadLog) (l : ThreadLog) → HasLog ls l → 1 ≤ sum_by (equals l.number.0) (numbers_of ls)
+pub number_there : (ls : List ThreadLog) (l : ThreadLog) → Has ls l → 1 ≤ sum_by (equals l.number.0) (numbers_of ls)
 number_there [] l h = absurd h
 number_there (m ∷ ms) l (inl same) =
     let one = equals_same l.number.0 in
@@ -101,7 +100,7 @@ number_once k n (l ∷ ls) r = elim (equals_cases n l.number.0) [
       omega (arith, none, more, sum_by-cons (equals n) l.number.0 (numbers_of ls))
 ]
 
-pub one_log : (k : ℕ) (ls : List ThreadLog) (a b : ThreadLog) → NumbersRiseFrom k ls → HasLog ls a → HasLog ls b → a.number.0 ≡ b.number.0 → a ≡ b
+pub one_log : (k : ℕ) (ls : List ThreadLog) (a b : ThreadLog) → NumbersRiseFrom k ls → Has ls a → Has ls b → a.number.0 ≡ b.number.0 → a ≡ b
 one_log k [] a b r h g same = absurd h
 one_log k (l ∷ ls) a b r (inl p) (inl q) same = sym p ∙ q
 one_log k (l ∷ ls) a b r (inl p) (inr g) same =
@@ -112,7 +111,7 @@ one_log k (l ∷ ls) a b r (inr h) (inl q) same =
     let at = ap (λ (z : ThreadLog). z.number.0) q in absurd (omega (arith, above, at, same))
 one_log k (l ∷ ls) a b r (inr h) (inr g) same = one_log (suc l.number.0) ls a b r.1 h g same
 
-pub entries_there : (k : ℕ) (ls : List ThreadLog) (l : ThreadLog) → NumbersRiseFrom k ls → HasLog ls l → entries_of ls l.number.0 ≡ l.entries
+pub entries_there : (k : ℕ) (ls : List ThreadLog) (l : ThreadLog) → NumbersRiseFrom k ls → Has ls l → entries_of ls l.number.0 ≡ l.entries
 entries_there k [] l r h = absurd h
 entries_there k (m ∷ ms) l r (inl same) = elim (eqb_tells m.number.0 l.number.0) [
   | inl hit ↦ rw hit.0 (ap (λ (z : ThreadLog). z.entries) same)
@@ -123,7 +122,7 @@ entries_there k (m ∷ ms) l r (inr h) = elim (eqb_tells m.number.0 l.number.0) 
   | inr miss ↦ rw miss.0 (entries_there (suc m.number.0) ms l r.1 h)
 ]
 
-pub end_there : (k : ℕ) (ls : List ThreadLog) (l : ThreadLog) → NumbersRiseFrom k ls → HasLog ls l → end_of ls l.number.0 ≡ l.«end»
+pub end_there : (k : ℕ) (ls : List ThreadLog) (l : ThreadLog) → NumbersRiseFrom k ls → Has ls l → end_of ls l.number.0 ≡ l.«end»
 end_there k [] l r h = absurd h
 end_there k (m ∷ ms) l r (inl same) = elim (eqb_tells m.number.0 l.number.0) [
   | inl hit ↦ rw hit.0 (ap (λ (z : ThreadLog). z.«end») same)
@@ -140,7 +139,7 @@ end_there k (m ∷ ms) l r (inr h) = elim (eqb_tells m.number.0 l.number.0) [
 record Chosen (P : ThreadLog → Type 0) (n : ℕ) (ls : List ThreadLog) : Type 0 where
   mark : ℕ → ℕ
   one : (k : ℕ) → (mark k ≡ 0) ⊎ (mark k ≡ 1)
-  so : (l : ThreadLog) → HasLog ls l → mark l.number.0 ≡ 1 → P l
+  so : (l : ThreadLog) → Has ls l → mark l.number.0 ≡ 1 → P l
   away : (k : ℕ) → sum_by (equals k) (numbers_of ls) ≡ 0 → mark k ≡ 0
   many : n ≤ sum_by mark (numbers_of ls)
 
@@ -157,26 +156,26 @@ mark_else : (k m : ℕ) (f : ℕ → ℕ) → m ≢ k → with_mark k f m ≡ f 
 mark_else k m f apart = elim (eqb_tells m k) [ inl hit ↦ absurd (apart hit.1) | inr miss ↦ ap (λ b. cond b 1 (f m)) miss.0 ]
 
 -- a number that stands in none of these logs
-not_number : (k : ℕ) (ls : List ThreadLog) (l : ThreadLog) → sum_by (equals k) (numbers_of ls) ≡ 0 → HasLog ls l → l.number.0 ≢ k
+not_number : (k : ℕ) (ls : List ThreadLog) (l : ThreadLog) → sum_by (equals k) (numbers_of ls) ≡ 0 → Has ls l → l.number.0 ≢ k
 not_number k ls l none h same =
     let some = number_there ls l h in
     let at : sum_by (equals l.number.0) (numbers_of ls) ≡ sum_by (equals k) (numbers_of ls) = ap (λ m. sum_by (equals m) (numbers_of ls)) same in
     absurd (omega (arith, none, some, at))
 
-marked_else : (f : ℕ → ℕ) (k : ℕ) (ls : List ThreadLog) → ((l : ThreadLog) → HasLog ls l → l.number.0 ≢ k) → sum_by (with_mark k f) (numbers_of ls) ≡ sum_by f (numbers_of ls)
+marked_else : (f : ℕ → ℕ) (k : ℕ) (ls : List ThreadLog) → ((l : ThreadLog) → Has ls l → l.number.0 ≢ k) → sum_by (with_mark k f) (numbers_of ls) ≡ sum_by f (numbers_of ls)
 marked_else f k [] apart = refl
 marked_else f k (l ∷ ls) apart =
     let here = mark_else k l.number.0 f (apart l (inl refl)) in
     let more = marked_else f k ls (λ m h. apart m (inr h)) in
     omega (arith, here, more, sum_by-cons (with_mark k f) l.number.0 (numbers_of ls), sum_by-cons f l.number.0 (numbers_of ls))
 
-so_marked : (P : ThreadLog → Type 0) (f : ℕ → ℕ) (l : ThreadLog) (ls : List ThreadLog) → P l → ((m : ThreadLog) → HasLog ls m → f m.number.0 ≡ 1 → P m) → ((m : ThreadLog) → HasLog ls m → m.number.0 ≢ l.number.0)
-    → (x : ThreadLog) → HasLog (l ∷ ls) x → with_mark l.number.0 f x.number.0 ≡ 1 → P x
+so_marked : (P : ThreadLog → Type 0) (f : ℕ → ℕ) (l : ThreadLog) (ls : List ThreadLog) → P l → ((m : ThreadLog) → Has ls m → f m.number.0 ≡ 1 → P m) → ((m : ThreadLog) → Has ls m → m.number.0 ≢ l.number.0)
+    → (x : ThreadLog) → Has (l ∷ ls) x → with_mark l.number.0 f x.number.0 ≡ 1 → P x
 so_marked P f l ls first so apart x (inl same) is = subst P same first
 so_marked P f l ls first so apart x (inr h) is = so x h (sym (mark_else l.number.0 x.number.0 f (apart x h)) ∙ is)
 
-so_unmarked : (P : ThreadLog → Type 0) (f : ℕ → ℕ) (l : ThreadLog) (ls : List ThreadLog) → f l.number.0 ≡ 0 → ((m : ThreadLog) → HasLog ls m → f m.number.0 ≡ 1 → P m)
-    → (x : ThreadLog) → HasLog (l ∷ ls) x → f x.number.0 ≡ 1 → P x
+so_unmarked : (P : ThreadLog → Type 0) (f : ℕ → ℕ) (l : ThreadLog) (ls : List ThreadLog) → f l.number.0 ≡ 0 → ((m : ThreadLog) → Has ls m → f m.number.0 ≡ 1 → P m)
+    → (x : ThreadLog) → Has (l ∷ ls) x → f x.number.0 ≡ 1 → P x
 so_unmarked P f l ls none so x (inl same) is = zero_one (f l.number.0) none (ap (λ (z : ThreadLog). f z.number.0) same ∙ is)
 so_unmarked P f l ls none so x (inr h) is = so x h is
 
@@ -189,7 +188,7 @@ choose P (suc n) (l ∷ ls) once (inl h) =
     let o = once l.number.0 in
     let same = equals_same l.number.0 in
     let none : sum_by (equals l.number.0) (numbers_of ls) ≡ 0 = omega (arith, o, same, sum_by-cons (equals l.number.0) l.number.0 (numbers_of ls)) in
-    let apart : (m : ThreadLog) → HasLog ls m → m.number.0 ≢ l.number.0 = λ m g. not_number l.number.0 ls m none g in
+    let apart : (m : ThreadLog) → Has ls m → m.number.0 ≢ l.number.0 = λ m g. not_number l.number.0 ls m none g in
     let more = marked_else c.mark l.number.0 ls apart in
     let here = mark_here l.number.0 c.mark in
     let m = c.many in
@@ -221,7 +220,7 @@ choose P (suc n) (l ∷ ls) once (inr h) =
       many = omega (arith, m, off, sum_by-cons c.mark l.number.0 (numbers_of ls));
     }
 
-chosen_many : (P : ThreadLog → Type 0) (f : ℕ → ℕ) (ls : List ThreadLog) → ((k : ℕ) → (f k ≡ 0) ⊎ (f k ≡ 1)) → ((l : ThreadLog) → HasLog ls l → f l.number.0 ≡ 1 → P l) → AtLeast P (sum_by f (numbers_of ls)) ls
+chosen_many : (P : ThreadLog → Type 0) (f : ℕ → ℕ) (ls : List ThreadLog) → ((k : ℕ) → (f k ≡ 0) ⊎ (f k ≡ 1)) → ((l : ThreadLog) → Has ls l → f l.number.0 ≡ 1 → P l) → AtLeast P (sum_by f (numbers_of ls)) ls
 chosen_many P f [] one so = tt
 chosen_many P f (l ∷ ls) one so =
     let rest = chosen_many P f ls one (λ m h. so m (inr h)) in

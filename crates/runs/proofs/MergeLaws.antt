@@ -1,14 +1,14 @@
 -- The merge of logs whose stamps rise is in stamp order, and its part of each thread is that thread's log.
-use Rattle.std.proofs.Common.{◌≡◌, ℕ, suc, ◌<◌, ◌≤◌, Bool, true, false, List, [], ◌∷◌, refl, sym, ◌∙◌, ap, subst, ◌≢◌, inl, inr, arith}
+use Rattle.std.proofs.Common.{◌≡◌, ℕ, suc, ◌<◌, ◌≤◌, Bool, true, false, List, [], ◌∷◌, ◌++◌, refl, sym, ◌∙◌, ap, subst, ◌≢◌, inl, inr, arith}
 use Rattle.std.specs.Prelude.{if◌then◌else◌, ◌==◌, ◌⊎◌, nat_le}
 use Rattle.std.proofs.lemmas.Bool.{eq-eqb}
 use Rattle.std.proofs.lemmas.Bool.Decides.{eqb_tells, nat_tests}
 use Rattle.history.specs.declared.entry.Entry.{Entry}
 use Rattle.history.specs.declared.log.ThreadLog.{ThreadLog}
-use Rattle.runs.specs.Parts.{of_thread}
-use Rattle.runs.specs.Stamps.{Has, RisesFrom}
-use Rattle.history.specs.Merge.{put_by_stamp}
-use Rattle.runs.specs.Merge.{merged_with, merged, entries_of, IsMerge, IsOwn, MayMerge, no_logs, one_more}
+use Rattle.runs.specs.Parts.{Has, of_thread}
+use Rattle.runs.specs.Stamps.{RisesFrom}
+use Rattle.history.specs.Merge.{by_stamp, put_by_stamp}
+use Rattle.runs.specs.Merge.{all_entries, merged, entries_of, IsPartwiseMerge, IsOwn, MayMerge, no_logs, one_more}
 use Rattle.runs.specs.Right.{NumbersRiseFrom}
 
 pub at_most_tells : (a b : ℕ) → ((nat_le a b ≡ true) × (a ≤ b)) ⊎ ((nat_le a b ≡ false) × (b < a))
@@ -62,18 +62,22 @@ other_inserted t x (z ∷ zs) miss = elim (at_most_tells x.stamp.0 z.stamp.0) [
   | inr above ↦ rw above.0 (ap (λ l. if z.thread.0 == t then z ∷ l else l) (other_inserted t x zs miss))
 ]
 
-pub own_merged : (t n : ℕ) (xs ys : List Entry) → IsOwn t xs → RisesFrom n xs → of_thread t ys ≡ [] → of_thread t (merged_with xs ys) ≡ xs
+-- these entries and more, in stamp order
+abbrev pub merged_with : List Entry → List Entry → List Entry
+merged_with xs ys = by_stamp (xs ++ ys)
+
+pub own_merged : (t n : ℕ) (xs ys : List Entry) → IsOwn t xs → RisesFrom n xs → of_thread t (by_stamp ys) ≡ [] → of_thread t (merged_with xs ys) ≡ xs
 own_merged t n [] ys own r none = none
 own_merged t n (x ∷ xs) ys own r none = own_inserted t x (merged_with xs ys) xs (own_merged t x.stamp.0 xs ys own.1 r.1 none) r.1 own.0
 
-pub other_merged : (t u : ℕ) (xs ys : List Entry) → IsOwn u xs → u ≢ t → of_thread t (merged_with xs ys) ≡ of_thread t ys
+pub other_merged : (t u : ℕ) (xs ys : List Entry) → IsOwn u xs → u ≢ t → of_thread t (merged_with xs ys) ≡ of_thread t (by_stamp ys)
 other_merged t u [] ys own ne = refl
 other_merged t u (x ∷ xs) ys own ne =
     let miss : (x.thread.0 == t) ≡ false = elim (eqb_tells x.thread.0 t) [ inl hit ↦ absurd (ne (sym own.0 ∙ hit.1)) | inr off ↦ off.0 ] in
     other_inserted t x (merged_with xs ys) miss ∙ other_merged t u xs ys own.1 ne
 
 -- in a merge there are the entries of the logs alone
-pub in_merged_with : (xs ys : List Entry) (z : Entry) → Has (merged_with xs ys) z → Has xs z ⊎ Has ys z
+pub in_merged_with : (xs ys : List Entry) (z : Entry) → Has (merged_with xs ys) z → Has xs z ⊎ Has (by_stamp ys) z
 in_merged_with [] ys z h = inr h
 in_merged_with (x ∷ xs) ys z h = elim (in_inserted x (merged_with xs ys) z h) [
   | inl same ↦ inl (inl same)
@@ -89,7 +93,7 @@ above_first n [] x r h = absurd h
 above_first n (e ∷ es) x r (inl is) = subst (λ y. n < y.stamp.0) is r.0
 above_first n (e ∷ es) x r (inr h) = omega (arith, above_first e.stamp.0 es x r.1 h, r.0)
 
-pub merged_with_rises : (n : ℕ) (xs ys : List Entry) → RisesFrom n xs → RisesFrom n ys → ((x y : Entry) → Has xs x → Has ys y → y.stamp.0 ≢ x.stamp.0) → RisesFrom n (merged_with xs ys)
+pub merged_with_rises : (n : ℕ) (xs ys : List Entry) → RisesFrom n xs → RisesFrom n (by_stamp ys) → ((x y : Entry) → Has xs x → Has (by_stamp ys) y → y.stamp.0 ≢ x.stamp.0) → RisesFrom n (merged_with xs ys)
 merged_with_rises n [] ys r s apart = s
 merged_with_rises n (x ∷ xs) ys r s apart =
     inserted_rises n x (merged_with xs ys) r.0
@@ -107,7 +111,7 @@ no_entries n t (l ∷ ls) r less =
 
 pub merged_rises : (logs : List ThreadLog) → MayMerge logs → RisesFrom 0 (merged logs)
 merged_rises [] no_logs = tt
-merged_rises (l ∷ ls) (one_more own r apart more) = merged_with_rises 0 l.entries (merged ls) r (merged_rises ls more) apart
+merged_rises (l ∷ ls) (one_more own r apart more) = merged_with_rises 0 l.entries (all_entries ls) r (merged_rises ls more) apart
 
 pub merged_parts : (n t : ℕ) (logs : List ThreadLog) → NumbersRiseFrom n logs → MayMerge logs → of_thread t (merged logs) ≡ entries_of logs t
 merged_parts n t [] r no_logs = refl
@@ -115,10 +119,10 @@ merged_parts n t (l ∷ ls) r (one_more own rises apart more) = elim (eqb_tells 
   | inl hit ↦
       let own' : IsOwn t l.entries = subst (λ k. IsOwn k l.entries) hit.1 own in
       let none : of_thread t (merged ls) ≡ [] = merged_parts (suc l.number.0) t ls r.1 more ∙ no_entries (suc l.number.0) t ls r.1 (omega (arith, hit.1)) in
-      rw hit.0 (own_merged t 0 l.entries (merged ls) own' rises none)
-  | inr miss ↦ rw miss.0 (other_merged t l.number.0 l.entries (merged ls) own miss.1 ∙ merged_parts (suc l.number.0) t ls r.1 more)
+      rw hit.0 (own_merged t 0 l.entries (all_entries ls) own' rises none)
+  | inr miss ↦ rw miss.0 (other_merged t l.number.0 l.entries (all_entries ls) own miss.1 ∙ merged_parts (suc l.number.0) t ls r.1 more)
 ]
 
 -- the merge is in stamp order, and its parts are the logs
-pub merged_is_merge : (logs : List ThreadLog) → NumbersRiseFrom 0 logs → MayMerge logs → IsMerge logs (merged logs)
+pub merged_is_merge : (logs : List ThreadLog) → NumbersRiseFrom 0 logs → MayMerge logs → IsPartwiseMerge logs (merged logs)
 merged_is_merge logs r may = record { rises = merged_rises logs may; parts = λ t. merged_parts 0 t logs r may }

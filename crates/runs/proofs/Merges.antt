@@ -4,9 +4,9 @@ use Rattle.std.specs.Prelude.{if◌then◌else◌, ◌==◌}
 use Rattle.std.proofs.lemmas.Bool.{eq-eqb}
 use Rattle.history.specs.declared.entry.Entry.{Entry}
 use Rattle.history.specs.declared.log.ThreadLog.{ThreadLog}
-use Rattle.runs.specs.Parts.{of_thread, of_alloc, names}
-use Rattle.runs.specs.Stamps.{Has, RisesFrom}
-use Rattle.runs.specs.Merge.{entries_of, IsMerge}
+use Rattle.runs.specs.Parts.{Has, of_thread, of_alloc, names}
+use Rattle.runs.specs.Stamps.{RisesFrom}
+use Rattle.runs.specs.Merge.{entries_of, IsPartwiseMerge}
 use Rattle.runs.proofs.Order.{rises_above, first_is_least}
 
 pub in_own_thread : (es : List Entry) (x : Entry) → Has es x → Has (of_thread x.thread.0 es) x
@@ -84,7 +84,7 @@ alloc_rises a n (e ∷ es) r =
     rises_lower n k (e ∷ es) le r = (omega (arith, r.0), r.1)
 
 -- an allocation's log, known by its threads' parts, is the merge's part on its number
-pub alloc_part : (logs : List ThreadLog) (entries log : List Entry) (a : ℕ) → IsMerge logs entries → RisesFrom 0 log
+pub alloc_part : (logs : List ThreadLog) (entries log : List Entry) (a : ℕ) → IsPartwiseMerge logs entries → RisesFrom 0 log
     → ((t : ℕ) → of_thread t log ≡ of_alloc a (entries_of logs t)) → of_alloc a entries ≡ log
 alloc_part logs entries log a merge r same =
     same_by_threads (of_alloc a entries) log 0 0 (alloc_rises a 0 entries merge.rises) r

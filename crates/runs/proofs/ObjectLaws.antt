@@ -8,7 +8,7 @@ use Rattle.history.specs.declared.entry.Request.{Request}
 use Rattle.history.specs.declared.entry.Request.TheVariants as request
 use Rattle.history.specs.declared.trap.Trap.{Trap}
 use Rattle.history.specs.Memory.{trap_in}
-use Rattle.history.specs.Objects.{Object, Made, data_answer, data_unless, plain_reply, retag_answer, end_answer, answer}
+use Rattle.history.specs.Objects.{Object, Made, data_answer, data_unless, plain_reply, retag_answer, end_answer, answer, Reborrow, reborrow}
 use Rattle.runs.specs.Objects.{objects}
 use Rattle.runs.specs.Right.{made_by, spawned_by_reply}
 use Rattle.runs.specs.ReplayLaw.{makes, MakesAlone}
@@ -28,7 +28,7 @@ data_names : (o : Object) (m : Option Made) (r : Request) → NamesNone (data_an
 data_names o None r = (refl, refl)
 data_names o (Some m) r = unless_names o m r (trap_in m.memory r)
 
-retag_names : (o : Object) (m : Option Made) (r : Request) (stamp : ℕ) → NamesNone (retag_answer o m r stamp).reply.plain
+retag_names : (o : Object) (m : Option Made) (r : Reborrow) (stamp : ℕ) → NamesNone (retag_answer o m r stamp).reply.plain
 retag_names o None r stamp = (refl, refl)
 retag_names o (Some m) r stamp = (refl, refl)
 
@@ -38,7 +38,7 @@ end_names o (Some m) tag = (refl, refl)
 
 others_name : (o : Object) (r : Request) (stamp : ℕ) → makes r ≡ false → NamesNone (answer o r (record { 0 = stamp })).reply.plain
 others_name o (request.Make size place) stamp off = absurd (true≢false off)
-others_name o (request.Retag at len kind guard prov) stamp off = retag_names o o.made (request.Retag at len kind guard prov) stamp
+others_name o (request.Retag at len kind guard prov) stamp off = retag_names o o.made (reborrow at len kind guard prov) stamp
 others_name o (request.EndProtector tag) stamp off = end_names o o.made tag
 others_name o (request.Load at ty prov) stamp off = data_names o o.made (request.Load at ty prov)
 others_name o (request.Store at ty value carried prov) stamp off = data_names o o.made (request.Store at ty value carried prov)

@@ -9,10 +9,10 @@ use Rattle.history.specs.declared.log.End.{End}
 use Rattle.history.specs.declared.entry.Reply.{Reply}
 use Rattle.history.specs.declared.entry.Request.{Request}
 use Rattle.history.specs.declared.entry.Request.TheVariants as request
-use Rattle.runs.specs.Parts.{of_thread, child_of, spawned_by, spawned_of, is_child}
+use Rattle.runs.specs.Parts.{Has, of_thread, child_of, spawned_by, spawned_of, is_child}
 use Rattle.runs.specs.Interleaving.{Allowed}
 use Rattle.runs.specs.Order.{StandsRight, with_child, InOrder}
-use Rattle.runs.specs.Stamps.{Has, RisesFrom, SpawnedBefore, StandsAmong, IsTied}
+use Rattle.runs.specs.Stamps.{RisesFrom, SpawnedBefore, StandsAmong, IsTied}
 
 pub rises_above : (n : ℕ) (es : List Entry) (x : Entry) → RisesFrom n es → Has es x → n < x.stamp.0
 rises_above n [] x r h = absurd h

@@ -18,8 +18,9 @@ use Rattle.history.specs.declared.entry.Request.TheVariants as request
 use Rattle.history.specs.declared.trap.Trap.{Trap}
 use Rattle.history.specs.declared.trap.Trap.TheVariants as trap
 use Rattle.history.specs.Memory.{Memory as Bytes, is_outside, trap_in, next_memory, in_range, put, word_at}
-use Rattle.history.specs.Fragments.{Shadow, stored_as, fragments_from, next_shadow}
-use Rattle.history.specs.Objects.{Object, Made, data_answer, data_unless, plain_reply, retag_answer, end_answer, answer, Answer}
+use Rattle.history.specs.Pieces.{fragments_from}
+use Rattle.history.specs.Fragments.{Shadow, stored_as, next_shadow}
+use Rattle.history.specs.Objects.{Object, Made, data_answer, data_unless, plain_reply, retag_answer, end_answer, answer, Answer, Reborrow, reborrow}
 use Rattle.history.specs.Pieces.{Byte}
 use Rattle.history.specs.Replies.{trap_of}
 use Rattle.runs.specs.Erasure.{without_fragments, erased_plain, erased_reply, erased_request, is_left_out}
@@ -173,7 +174,7 @@ answers_alike o (request.Spawn f) stamp valid kept = data_alike o o.made (reques
 answers_alike o (request.Join c) stamp valid kept = data_alike o o.made (request.Join c) valid
 
 -- retags and protector ends leave the bytes
-retag_leaves : (o : Object) (made : Option Made) (r : Request) (stamp : ℕ) → o.made ≡ made → bytes_of_object (retag_answer o made r stamp).object ≡ bytes_of_object o
+retag_leaves : (o : Object) (made : Option Made) (r : Reborrow) (stamp : ℕ) → o.made ≡ made → bytes_of_object (retag_answer o made r stamp).object ≡ bytes_of_object o
 retag_leaves o None r stamp is = refl
 retag_leaves o (Some m) r stamp is = made_object o m is
 
@@ -182,11 +183,11 @@ end_leaves o None tag is = refl
 end_leaves o (Some m) tag is = made_object o m is
 
 pub leaves_bytes : (o : Object) (r : Request) (stamp : ℕ) → is_left_out r ≡ true → bytes_of_object (answer o r (record { 0 = stamp })).object ≡ bytes_of_object o
-leaves_bytes o (request.Retag at len kind guard prov) stamp out = retag_leaves o o.made (request.Retag at len kind guard prov) stamp refl
+leaves_bytes o (request.Retag at len kind guard prov) stamp out = retag_leaves o o.made (reborrow at len kind guard prov) stamp refl
 leaves_bytes o (request.EndProtector tag) stamp out = end_leaves o o.made tag refl
 leaves_bytes o _ stamp out = absurd (true≢false (sym out))
 
-retag_untrapped : (o : Object) (made : Option Made) (r : Request) (stamp : ℕ) → trap_of (retag_answer o made r stamp).reply.plain ≡ None
+retag_untrapped : (o : Object) (made : Option Made) (r : Reborrow) (stamp : ℕ) → trap_of (retag_answer o made r stamp).reply.plain ≡ None
 retag_untrapped o None r stamp = refl
 retag_untrapped o (Some m) r stamp = refl
 
@@ -195,7 +196,7 @@ end_untrapped o None tag = refl
 end_untrapped o (Some m) tag = refl
 
 pub never_traps : (o : Object) (r : Request) (stamp : ℕ) → is_left_out r ≡ true → trap_of (answer o r (record { 0 = stamp })).reply.plain ≡ None
-never_traps o (request.Retag at len kind guard prov) stamp out = retag_untrapped o o.made (request.Retag at len kind guard prov) stamp
+never_traps o (request.Retag at len kind guard prov) stamp out = retag_untrapped o o.made (reborrow at len kind guard prov) stamp
 never_traps o (request.EndProtector tag) stamp out = end_untrapped o o.made tag
 never_traps o _ stamp out = absurd (true≢false (sym out))
 
@@ -208,7 +209,7 @@ data_keeps : (o : Object) (made : Option Made) (r : Request) → HasShadow o.mad
 data_keeps o None r valid h = valid
 data_keeps o (Some m) r valid h = unless_keeps o m r h valid (trap_in m.memory r) refl
 
-retag_keeps : (o : Object) (made : Option Made) (r : Request) (stamp : ℕ) → HasShadow o.made → HasShadow made → HasShadow (retag_answer o made r stamp).object.made
+retag_keeps : (o : Object) (made : Option Made) (r : Reborrow) (stamp : ℕ) → HasShadow o.made → HasShadow made → HasShadow (retag_answer o made r stamp).object.made
 retag_keeps o None r stamp valid h = valid
 retag_keeps o (Some m) r stamp valid h = h
 
@@ -218,7 +219,7 @@ end_keeps o (Some m) tag valid h = h
 
 pub keeps_shadow : (o : Object) (r : Request) (stamp : ℕ) → HasShadow o.made → HasShadow (answer o r (record { 0 = stamp })).object.made
 keeps_shadow o (request.Make size place) stamp valid = length-replicate size no_frag ∙ sym (length-replicate size 0)
-keeps_shadow o (request.Retag at len kind guard prov) stamp valid = retag_keeps o o.made (request.Retag at len kind guard prov) stamp valid valid
+keeps_shadow o (request.Retag at len kind guard prov) stamp valid = retag_keeps o o.made (reborrow at len kind guard prov) stamp valid valid
 keeps_shadow o (request.EndProtector tag) stamp valid = end_keeps o o.made tag valid valid
 keeps_shadow o (request.Load at ty prov) stamp valid = data_keeps o o.made (request.Load at ty prov) valid valid
 keeps_shadow o (request.Store at ty value carried prov) stamp valid = data_keeps o o.made (request.Store at ty value carried prov) valid valid

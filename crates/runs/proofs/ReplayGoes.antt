@@ -15,12 +15,11 @@ use Rattle.history.specs.declared.entry.Request.{Request}
 use Rattle.history.specs.declared.entry.Request.TheVariants as request
 use Rattle.history.specs.declared.log.End.{End}
 use Rattle.history.specs.declared.log.End.TheVariants as log_end
-use Rattle.runs.specs.Parts.{of_thread, child_of, is_child}
+use Rattle.runs.specs.Parts.{Has, of_thread, child_of, is_child}
 use Rattle.runs.specs.Machine.{Machine, Memory, Settles}
 use Rattle.runs.specs.Threads.{Feeds, StartsAs, EndsAs}
 use Rattle.runs.specs.Interleaving.{World, first_world, world_after, HasReturned, Allowed, Event, Interleaves, last_world}
 use Rattle.runs.specs.Right.{starts_thread}
-use Rattle.runs.specs.Stamps.{Has}
 use Rattle.runs.specs.Replay.{Fiber, Progress, Steps, RepliesNext, IsOwnEnd, RestsAs, Chooses, picked}
 use Rattle.runs.specs.ReplayLaw.{makes, MakesAlone, FitsAlways}
 use Rattle.runs.proofs.Feeding.{feeds_entry, feeds_agree, feeds_settled}

@@ -19,14 +19,14 @@ use Rattle.history.specs.declared.log.AllocLog.{AllocLog}
 use Rattle.history.specs.declared.log.End.{End}
 use Rattle.history.specs.declared.log.End.TheVariants as log_end
 use Rattle.history.specs.declared.log.ThreadLog.{ThreadLog}
-use Rattle.runs.specs.Parts.{of_thread, of_alloc, names, Answers, IsOnNumber}
+use Rattle.runs.specs.Parts.{Has, of_thread, of_alloc, names, Answers, IsOnNumber}
 use Rattle.runs.specs.Machine.{Machine, Memory}
 use Rattle.runs.specs.Threads.{Feeds, IsThreadRun, EndsAs}
 use Rattle.runs.specs.Interleaving.{World, first_world, world_after, Allowed, Replies, Interleaves, Legal, MakesUnmade}
 use Rattle.runs.specs.Merge.{merged, entries_of, IsOwn, MayMerge, no_logs, one_more}
-use Rattle.runs.specs.Stamps.{Has, RisesFrom}
+use Rattle.runs.specs.Stamps.{RisesFrom}
 use Rattle.history.specs.Histories.{is_make_step}
-use Rattle.runs.specs.Right.{HasLog, NumbersRiseFrom, end_of, IsSpawnedOnce, HasThreads, HasRuns, MergesToRun, HasHistories, HasCounts, IsRight, AllocsRiseFrom, history_of, starts_thread, IsReached, is_main, is_spawned, StandsAsking, AtLeast, asks_make, asks_spawn, beyond, beyond_of, alloc_numbers, thread_numbers, counting_from, is_spawn}
+use Rattle.runs.specs.Right.{NumbersRiseFrom, end_of, IsSpawnedOnce, HasThreads, HasRuns, MergesToRun, HasHistories, HasCounts, IsRight, AllocsRiseFrom, history_of, starts_thread, IsReached, is_main, is_spawned, StandsAsking, AtLeast, asks_make, asks_spawn, beyond, beyond_of, alloc_numbers, thread_numbers, counting_from, is_spawn}
 use Rattle.runs.specs.Replay.{Fiber, Progress}
 use Rattle.runs.specs.ReplayLaw.{log_of, logs_from, with_history, histories_from, record_of, makes, ReplayIsRight}
 use Rattle.runs.proofs.MergeLaws.{above_first, merged_is_merge, rises_lower}
@@ -176,15 +176,15 @@ ended_as None e some is = absurd (some refl)
 ended_as (Some x) e some is = ap Some is
 
 module _ (M : Machine) where
-  log_found : (fs : List (Fiber M)) (k : ℕ) (log : ThreadLog) → HasLog (logs_from M k fs) log → (i : ℕ) × (f : Fiber M) × (slice_get fs i ≡ Some f) × (log_of M (i + k) f ≡ log)
+  log_found : (fs : List (Fiber M)) (k : ℕ) (log : ThreadLog) → Has (logs_from M k fs) log → (i : ℕ) × (f : Fiber M) × (slice_get fs i ≡ Some f) × (log_of M (i + k) f ≡ log)
   log_found [] k log h = absurd h
   log_found (f ∷ fs) k log (inl is) = (0, f, refl, ap (λ n. log_of M n f) (plus_zero k) ∙ is)
   log_found (f ∷ fs) k log (inr h) = let r = log_found fs (suc k) log h in (suc r.0, r.1, r.2, ap (λ n. log_of M n r.1) (sym (plus_suc r.0 k)) ∙ r.3)
 
-  log_put : (fs : List (Fiber M)) (k i : ℕ) (f : Fiber M) → slice_get fs i ≡ Some f → HasLog (logs_from M k fs) (log_of M (i + k) f)
+  log_put : (fs : List (Fiber M)) (k i : ℕ) (f : Fiber M) → slice_get fs i ≡ Some f → Has (logs_from M k fs) (log_of M (i + k) f)
   log_put [] k i f got = cc
   log_put (g ∷ fs) k zero f got = inl (ap (λ n. log_of M n g) (sym (plus_zero k)) ∙ ap (λ h. log_of M (0 + k) h) (some_inj got))
-  log_put (g ∷ fs) k (suc i) f got = inr (subst (λ n. HasLog (logs_from M (suc k) fs) (log_of M n f)) (plus_suc i k) (log_put fs (suc k) i f got))
+  log_put (g ∷ fs) k (suc i) f got = inr (subst (λ n. Has (logs_from M (suc k) fs) (log_of M n f)) (plus_suc i k) (log_put fs (suc k) i f got))
 
   entries_are : (fs : List (Fiber M)) (k t : ℕ) → entries_of (logs_from M k fs) (t + k) ≡ entries_in (slice_get fs t)
   entries_are [] k t = refl
@@ -260,7 +260,7 @@ module _ (M : Machine) (limits : Limits) (starts : ℕ → M.State) where
   abbrev ran_rest : (f : Fiber M) (fs : List (Fiber M)) (k : ℕ) → AllRan M limits starts (f ∷ fs) k → AllRan M limits starts fs (suc k)
   ran_rest f fs k all = λ i g got t is. all (suc i) g got t (is ∙ plus_suc i k)
 
-  abbrev runs_of : (fs : List (Fiber M)) (k : ℕ) → AllRan M limits starts fs k → (log : ThreadLog) → HasLog (logs_from M k fs) log → IsThreadRun M limits starts log
+  abbrev runs_of : (fs : List (Fiber M)) (k : ℕ) → AllRan M limits starts fs k → (log : ThreadLog) → Has (logs_from M k fs) log → IsThreadRun M limits starts log
   runs_of [] k all log h = absurd h
   runs_of (f ∷ fs) k all log (inl is) = run_along M limits starts (log_of M k f) log is (ran_first f fs k all).run
   runs_of (f ∷ fs) k all log (inr h) = runs_of fs (suc k) (ran_rest f fs k all) log h
@@ -304,7 +304,7 @@ module _ (M : Machine) (O : Memory) (A : Allowed) (limits : Limits) (main : ℕ)
   abbrev logs : List ThreadLog
   logs = logs_from M 0 p.threads
 
-  in_log : (log : ThreadLog) → HasLog logs log → (f : Fiber M) × (slice_get p.threads log.number.0 ≡ Some f) × (log_of M log.number.0 f ≡ log)
+  in_log : (log : ThreadLog) → Has logs log → (f : Fiber M) × (slice_get p.threads log.number.0 ≡ Some f) × (log_of M log.number.0 f ≡ log)
   in_log log h =
       let r = log_found M p.threads 0 log h in
       let sum : r.0 + 0 ≡ log.number.0 = ap (λ (l : ThreadLog). l.number.0) r.3 in
@@ -317,14 +317,14 @@ module _ (M : Machine) (O : Memory) (A : Allowed) (limits : Limits) (main : ℕ)
   ends_is t = subst (λ n. end_of logs n ≡ unwrap_or (end_in (slice_get p.threads t)) log_end.NoMemory) (zero_right t) (end_is M p.threads 0 t)
 
   -- a log's entries are its part of the merge
-  log_part : (log : ThreadLog) → HasLog logs log → of_thread log.number.0 p.merge ≡ log.entries
+  log_part : (log : ThreadLog) → Has logs log → of_thread log.number.0 p.merge ≡ log.entries
   log_part log h = let f = in_log log h in s.parts log.number.0 ∙ ap entries_in f.1 ∙ ap (λ (l : ThreadLog). l.entries) f.2
 
-  in_merge : (log : ThreadLog) (x : Entry) → HasLog logs log → Has log.entries x → Has p.merge x
+  in_merge : (log : ThreadLog) (x : Entry) → Has logs log → Has log.entries x → Has p.merge x
   in_merge log x h g = in_all log.number.0 p.merge x (subst (λ l. Has l x) (sym (log_part log h)) g)
 
-  has_log : (t : ℕ) (f : Fiber M) → slice_get p.threads t ≡ Some f → HasLog logs (log_of M t f)
-  has_log t f got = subst (λ n. HasLog logs (log_of M n f)) (zero_right t) (log_put M p.threads 0 t f got)
+  has_log : (t : ℕ) (f : Fiber M) → slice_get p.threads t ≡ Some f → Has logs (log_of M t f)
+  has_log t f got = subst (λ n. Has logs (log_of M n f)) (zero_right t) (log_put M p.threads 0 t f got)
 
   rising : RisesFrom 0 p.merge
   rising = numbered_rises 0 p.merge s.numbered
@@ -335,7 +335,7 @@ module _ (M : Machine) (O : Memory) (A : Allowed) (limits : Limits) (main : ℕ)
       let m = merged_is_merge logs (numbers_rise M p.threads 0) may in
       same_by_threads (merged logs) p.merge 0 0 m.rises rising (λ t. m.parts t ∙ entries_is t)
 
-  spawned_once : (log : ThreadLog) (f : Fiber M) → HasLog logs log → log_of M log.number.0 f ≡ log → HasParent p.merge log.number.0 f.parent f.function → IsSpawnedOnce logs log
+  spawned_once : (log : ThreadLog) (f : Fiber M) → Has logs log → log_of M log.number.0 f ≡ log → HasParent p.merge log.number.0 f.parent f.function → IsSpawnedOnce logs log
   spawned_once log f h is parent =
       let at : Has (of_thread parent.number.0 p.merge) parent.spawn = subst (λ n. Has (of_thread n p.merge) parent.spawn) parent.own (in_own_thread p.merge parent.spawn parent.stands) in
       record {

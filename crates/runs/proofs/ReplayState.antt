@@ -13,11 +13,10 @@ use Rattle.history.specs.declared.entry.Request.TheVariants as request
 use Rattle.history.specs.declared.entry.Verdict.TheVariants as verdict
 use Rattle.history.specs.declared.log.End.{End}
 use Rattle.history.specs.declared.log.End.TheVariants as log_end
-use Rattle.runs.specs.Parts.{of_thread, child_of}
+use Rattle.runs.specs.Parts.{Has, of_thread, child_of}
 use Rattle.runs.specs.Machine.{Machine, Memory, Settles, SettlesWithin}
 use Rattle.runs.specs.Threads.{Feeds, EndsAs}
 use Rattle.runs.specs.Interleaving.{World, first_world, Allowed, Interleaves, last_world}
-use Rattle.runs.specs.Stamps.{Has}
 use Rattle.runs.specs.Right.{Numbered, starts_thread}
 use Rattle.runs.specs.Replay.{Fiber, Progress, object_at}
 use Rattle.runs.proofs.Composition.{settles_without}

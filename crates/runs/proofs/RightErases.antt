@@ -17,13 +17,12 @@ use Rattle.history.specs.declared.log.End.{End}
 use Rattle.history.specs.declared.log.End.TheVariants as log_end
 use Rattle.history.specs.declared.log.ThreadLog.{ThreadLog}
 use Rattle.history.specs.declared.record.RunRecord.{RunRecord}
-use Rattle.runs.specs.Parts.{of_thread, child_of, is_child, spawned_by, spawned_of, Answers}
+use Rattle.runs.specs.Parts.{Has, of_thread, child_of, is_child, spawned_by, spawned_of, Answers}
 use Rattle.runs.specs.Machine.{Machine, Memory, TurnsTo, Settles, SettlesWithin}
 use Rattle.runs.specs.Threads.{Fed, Feeds, IsThreadRun, EndsAs, TrapsAs}
 use Rattle.runs.specs.Interleaving.{World, first_world, world_after, Allowed, Replies, Event, Interleaves, last_world}
 use Rattle.runs.specs.Merge.{merged, entries_of, MayMerge}
-use Rattle.runs.specs.Stamps.{Has}
-use Rattle.runs.specs.Right.{HasLog, NumbersRiseFrom, HasThreads, IsRight, ErasesToPlainRun, EndsPlainly}
+use Rattle.runs.specs.Right.{NumbersRiseFrom, HasThreads, IsRight, ErasesToPlainRun, EndsPlainly}
 use Rattle.runs.specs.Erasure.{Erases}
 use Rattle.runs.specs.RightErasure.{AsksAlike, LimitAsked, LimitsAreAsked}
 use Rattle.runs.proofs.Composition.{settles_without, without_limit, own_entries, other_entries, starts_as}
@@ -122,15 +121,15 @@ module _ (M : Machine) (O : Memory) (A : Allowed) where
 pub record RunOf (M : Machine) (limits : Limits) (starts : ℕ → M.State) (logs : List ThreadLog) (t : ℕ) : Type 0 where
   pub last : M.State
   pub feeds : Feeds M limits.turns starts (starts t) (entries_of logs t) last
-  pub ends : (log : ThreadLog) → HasLog logs log → log.number.0 ≡ t → EndsAs M limits last log.«end» × LimitAsked (M.ask last) log.«end»
+  pub ends : (log : ThreadLog) → Has logs log → log.number.0 ≡ t → EndsAs M limits last log.«end» × LimitAsked (M.ask last) log.«end»
 
-pub number_above : (k : ℕ) (logs : List ThreadLog) (log : ThreadLog) → NumbersRiseFrom k logs → HasLog logs log → k ≤ log.number.0
+pub number_above : (k : ℕ) (logs : List ThreadLog) (log : ThreadLog) → NumbersRiseFrom k logs → Has logs log → k ≤ log.number.0
 number_above k [] log r h = absurd h
 number_above k (l ∷ ls) log r (inl is) = subst (λ (z : ThreadLog). k ≤ z.number.0) is r.0
 number_above k (l ∷ ls) log r (inr h) = let m = number_above (suc l.number.0) ls log r.1 h in let b = r.0 in omega (arith, m, b)
 
-run_of : (M : Machine) (limits : Limits) (starts : ℕ → M.State) (k : ℕ) (logs : List ThreadLog) → NumbersRiseFrom k logs → (runs : (log : ThreadLog) → HasLog logs log → IsThreadRun M limits starts log)
-    → ((log : ThreadLog) (h : HasLog logs log) → LimitAsked (M.ask (runs log h).last) log.«end») → (t : ℕ) → RunOf M limits starts logs t
+run_of : (M : Machine) (limits : Limits) (starts : ℕ → M.State) (k : ℕ) (logs : List ThreadLog) → NumbersRiseFrom k logs → (runs : (log : ThreadLog) → Has logs log → IsThreadRun M limits starts log)
+    → ((log : ThreadLog) (h : Has logs log) → LimitAsked (M.ask (runs log h).last) log.«end») → (t : ℕ) → RunOf M limits starts logs t
 run_of M limits starts k [] r runs asked t = record { last = starts t; feeds = (0, refl); ends = λ log h n. absurd h }
 run_of M limits starts k (l ∷ ls) r runs asked t = elim (eqb_tells l.number.0 t) [
   | inl hit ↦
@@ -145,12 +144,12 @@ run_of M limits starts k (l ∷ ls) r runs asked t = elim (eqb_tells l.number.0 
       record { last = rest.last; feeds = rw miss.0 rest.feeds; ends = λ log h n. elsewhere log h n miss.1 rest.last rest.ends }
 ]
   where
-    by_place : (log : ThreadLog) → HasLog (l ∷ ls) log → log.number.0 ≡ t → (run : IsThreadRun M limits starts l) → l.number.0 ≡ t → EndsAs M limits (runs l (inl refl)).last log.«end» × LimitAsked (M.ask (runs l (inl refl)).last) log.«end»
+    by_place : (log : ThreadLog) → Has (l ∷ ls) log → log.number.0 ≡ t → (run : IsThreadRun M limits starts l) → l.number.0 ≡ t → EndsAs M limits (runs l (inl refl)).last log.«end» × LimitAsked (M.ask (runs l (inl refl)).last) log.«end»
     by_place log (inl is) n run same = subst (λ (z : ThreadLog). EndsAs M limits (runs l (inl refl)).last z.«end» × LimitAsked (M.ask (runs l (inl refl)).last) z.«end») is ((runs l (inl refl)).«end», asked l (inl refl))
     by_place log (inr h) n run same = let above = number_above (suc l.number.0) ls log r.1 h in absurd (omega (arith, above, n, same))
 
-    elsewhere : (log : ThreadLog) → HasLog (l ∷ ls) log → log.number.0 ≡ t → l.number.0 ≢ t → (last : M.State)
-        → ((m : ThreadLog) → HasLog ls m → m.number.0 ≡ t → EndsAs M limits last m.«end» × LimitAsked (M.ask last) m.«end») → EndsAs M limits last log.«end» × LimitAsked (M.ask last) log.«end»
+    elsewhere : (log : ThreadLog) → Has (l ∷ ls) log → log.number.0 ≡ t → l.number.0 ≢ t → (last : M.State)
+        → ((m : ThreadLog) → Has ls m → m.number.0 ≡ t → EndsAs M limits last m.«end» × LimitAsked (M.ask last) m.«end») → EndsAs M limits last log.«end» × LimitAsked (M.ask last) log.«end»
     elsewhere log (inl is) n other last ends = absurd (other (ap (λ (z : ThreadLog). z.number.0) is ∙ n))
     elsewhere log (inr h) n other last ends = ends log h n
 
@@ -199,7 +198,7 @@ right_erases M P O Q E A limits main start first kept m alike may r asked =
     }
   where
     started : (logs : List ThreadLog) → HasThreads main logs → (es : List Entry) → ((t : ℕ) → of_thread t es ≡ entries_of logs t) → (w : World M O) (s : M.State) → w.threads 0 ≡ Some s
-        → (run : Interleaves M O A w es) (log : ThreadLog) → HasLog logs log → (s' : M.State) × ((last_world M O A w es run).threads log.number.0 ≡ Some s')
+        → (run : Interleaves M O A w es) (log : ThreadLog) → Has logs log → (s' : M.State) × ((last_world M O A w es run).threads log.number.0 ≡ Some s')
     started logs threads es parts w s at run log h = elim (threads.spawned log h) [
       | inl zero_is ↦ stays_some M O A w es run log.number.0 s (subst (λ n. w.threads n ≡ Some s) (sym zero_is) at)
       | inr one ↦ spawned_some M O A w es run log.number.0 one.spawn (in_all one.parent.0 es one.spawn (subst (λ l. Has l one.spawn) (sym (parts one.parent.0)) one.stands)) one.answers

@@ -9,14 +9,14 @@ use Rattle.history.specs.declared.log.AllocLog.{AllocLog}
 use Rattle.bsan_ids.specs.declared.numbers.Limits.{Limits}
 use Rattle.bsan_ids.specs.declared.numbers.Prov.{Prov}
 use Rattle.history.specs.declared.log.ThreadLog.{ThreadLog}
-use Rattle.runs.specs.Parts.{of_thread, of_alloc}
+use Rattle.runs.specs.Parts.{Has, of_thread, of_alloc}
 use Rattle.runs.specs.Machine.{Machine, Memory}
 use Rattle.runs.specs.Threads.{IsThreadRun, EndsAs, Feeds}
 use Rattle.runs.specs.Interleaving.{first_world, Allowed, Interleaves, Legal}
 use Rattle.runs.specs.Order.{RunsToEnd}
 use Rattle.runs.specs.Stamps.{IsTied}
-use Rattle.runs.specs.Merge.{IsMerge, entries_of}
-use Rattle.runs.specs.Right.{HasLog, end_of, HasRuns, HasHistories, history_of}
+use Rattle.runs.specs.Merge.{IsPartwiseMerge, entries_of}
+use Rattle.runs.specs.Right.{end_of, HasRuns, HasHistories, history_of}
 use Rattle.runs.proofs.Composition.{one_run, at_start}
 use Rattle.runs.proofs.Order.{tied_in_order}
 use Rattle.runs.proofs.Merges.{alloc_part}
@@ -25,7 +25,7 @@ pub never_returns : (v : ℕ) (p : Option Prov) → log_end.NoMemory ≡ log_end
 never_returns v p is = cc
 
 pub runs_of : (M : Machine) (limits : Limits) (starts : ℕ → M.State) (logs : List ThreadLog)
-    → ((log : ThreadLog) → HasLog logs log → IsThreadRun M limits starts log)
+    → ((log : ThreadLog) → Has logs log → IsThreadRun M limits starts log)
     → (t : ℕ) → RunsToEnd M limits.turns starts (end_of logs) t (entries_of logs t)
 runs_of M limits starts [] runs t = record { last = starts t; feeds = (0, refl); ended = λ v p is. absurd (never_returns v p is) }
 runs_of M limits starts (l ∷ ls) runs t = elim (eqb_tells l.number.0 t) [
@@ -50,7 +50,7 @@ runs_of M limits starts (l ∷ ls) runs t = elim (eqb_tells l.number.0 t) [
 pub right_run : (M : Machine) (O : Memory) (A : Allowed) (limits : Limits) (main : M.State) (logs : List ThreadLog) (allocs : List AllocLog) (entries : List Entry)
     → HasRuns M limits main logs
     → HasHistories O limits logs allocs
-    → IsMerge logs entries
+    → IsPartwiseMerge logs entries
     → IsTied A (end_of logs) entries
     → ((a : ℕ) → ((0 < a) × (a ≤ limits.allocs)) ⊎ Legal O (O.unmade a) (of_alloc a entries))
     → Interleaves M O A (first_world M O main) entries

@@ -8,9 +8,8 @@ use Rattle.history.specs.declared.entry.Entry.{Entry}
 use Rattle.history.specs.declared.log.ThreadLog.{ThreadLog}
 use Rattle.runs.specs.Machine.{Machine, TurnsWithin}
 use Rattle.runs.specs.Merge.{entries_of}
-use Rattle.runs.specs.Parts.{Answers, child_of}
-use Rattle.runs.specs.Right.{HasLog, HasRuns, IsReached, is_main, is_spawned}
-use Rattle.runs.specs.Stamps.{Has}
+use Rattle.runs.specs.Parts.{Has, Answers, child_of}
+use Rattle.runs.specs.Right.{HasRuns, IsReached, is_main, is_spawned}
 use Rattle.runs.specs.Threads.{Feeds, StartsAs, CountsTurns, StandsOnce}
 
 module _ (M : Machine) (counts : CountsTurns M) (limit : ℕ) (starts : ℕ → M.State) where
@@ -43,7 +42,7 @@ module _ (M : Machine) (counts : CountsTurns M) (limit : ℕ) (starts : ℕ → 
       stands_once (M.after f.0.now e) a b es f.1 (subst (λ z. Feeds M limit starts (M.after z e) es b) (sym here) g.1) same
 
 -- the log with this number in which an entry stands
-log_at : (logs : List ThreadLog) (t : ℕ) (e : Entry) → Has (entries_of logs t) e → (log : ThreadLog) × HasLog logs log × Has log.entries e × (log.number.0 ≡ t)
+log_at : (logs : List ThreadLog) (t : ℕ) (e : Entry) → Has (entries_of logs t) e → (log : ThreadLog) × Has logs log × Has log.entries e × (log.number.0 ≡ t)
 log_at [] t e h = absurd h
 log_at (l ∷ ls) t e h = elim (eqb_tells l.number.0 t) [
   | inl hit ↦ (l, inl refl, subst (λ es. Has es e) (rw hit.0 refl) h, hit.1)

@@ -12,15 +12,15 @@ use Rattle.history.specs.declared.log.ThreadLog.{ThreadLog}
 use Rattle.bsan_ids.specs.declared.numbers.ThreadNo.{ThreadNo}
 use Rattle.history.specs.declared.entry.Verdict.TheVariants as verdict
 use Rattle.bsan_ids.specs.declared.numbers.Limits.{Limits}
-use Rattle.runs.specs.Parts.{child_of, is_child, spawned_of}
+use Rattle.runs.specs.Parts.{Has, child_of, is_child, spawned_of}
 use Rattle.runs.specs.Machine.{Machine}
 use Rattle.runs.specs.Interleaving.{Allowed}
-use Rattle.runs.specs.Stamps.{Has, RisesFrom, SpawnedBefore, StandsAmong, IsTied}
-use Rattle.history.specs.Merge.{put_by_stamp}
-use Rattle.runs.specs.Merge.{merged_with, merged, entries_of}
-use Rattle.runs.specs.Right.{HasLog, HasThreads, HasRuns, end_of, Numbered, starts_thread}
+use Rattle.runs.specs.Stamps.{RisesFrom, SpawnedBefore, StandsAmong, IsTied}
+use Rattle.history.specs.Merge.{by_stamp, put_by_stamp}
+use Rattle.runs.specs.Merge.{all_entries, merged, entries_of}
+use Rattle.runs.specs.Right.{HasThreads, HasRuns, end_of, Numbered, starts_thread}
 use Rattle.runs.specs.Tree.{HasStampOrder, IsEntryRight}
-use Rattle.runs.proofs.MergeLaws.{in_merged_with}
+use Rattle.runs.proofs.MergeLaws.{merged_with, in_merged_with}
 use Rattle.runs.proofs.Counting.{one_passes}
 use Rattle.runs.proofs.Order.{child_here}
 
@@ -28,9 +28,9 @@ pub spawned_inj : {a b : ThreadNo} → plain.Spawned a ≡ plain.Spawned b → a
 spawned_inj h = cc
 
 -- the log in which an entry of the merge stands
-pub log_of_entry : (logs : List ThreadLog) (x : Entry) → Has (merged logs) x → (l : ThreadLog) × HasLog logs l × Has l.entries x
+pub log_of_entry : (logs : List ThreadLog) (x : Entry) → Has (merged logs) x → (l : ThreadLog) × Has logs l × Has l.entries x
 log_of_entry [] x h = absurd h
-log_of_entry (l ∷ ls) x h = elim (in_merged_with l.entries (merged ls) x h) [
+log_of_entry (l ∷ ls) x h = elim (in_merged_with l.entries (all_entries ls) x h) [
   | inl own ↦ (l, inl refl, own)
   | inr other ↦ let r = log_of_entry ls x other in (r.0, inr r.1, r.2)
 ]
@@ -57,20 +57,20 @@ in_merge_own [] ys z h = absurd h
 in_merge_own (x ∷ xs) ys z (inl same) = subst (λ w. Has (put_by_stamp x (merged_with xs ys)) w) same (in_inserted_first x (merged_with xs ys))
 in_merge_own (x ∷ xs) ys z (inr h) = in_inserted_rest x (merged_with xs ys) z (in_merge_own xs ys z h)
 
-pub in_merge_other : (xs ys : List Entry) (z : Entry) → Has ys z → Has (merged_with xs ys) z
+pub in_merge_other : (xs ys : List Entry) (z : Entry) → Has (by_stamp ys) z → Has (merged_with xs ys) z
 in_merge_other [] ys z h = h
 in_merge_other (x ∷ xs) ys z h = in_inserted_rest x (merged_with xs ys) z (in_merge_other xs ys z h)
 
-pub in_merge : (logs : List ThreadLog) (l : ThreadLog) (x : Entry) → HasLog logs l → Has l.entries x → Has (merged logs) x
+pub in_merge : (logs : List ThreadLog) (l : ThreadLog) (x : Entry) → Has logs l → Has l.entries x → Has (merged logs) x
 in_merge [] l x g h = absurd g
-in_merge (k ∷ ks) l x (inl same) h = in_merge_own k.entries (merged ks) x (subst (λ (m : ThreadLog). Has m.entries x) (sym same) h)
-in_merge (k ∷ ks) l x (inr g) h = in_merge_other k.entries (merged ks) x (in_merge ks l x g h)
+in_merge (k ∷ ks) l x (inl same) h = in_merge_own k.entries (all_entries ks) x (subst (λ (m : ThreadLog). Has m.entries x) (sym same) h)
+in_merge (k ∷ ks) l x (inr g) h = in_merge_other k.entries (all_entries ks) x (in_merge ks l x g h)
 
-pub log_of_part : (logs : List ThreadLog) (t : ℕ) (x : Entry) → Has (entries_of logs t) x → (l : ThreadLog) × HasLog logs l × Has l.entries x
+pub log_of_part : (logs : List ThreadLog) (t : ℕ) (x : Entry) → Has (entries_of logs t) x → (l : ThreadLog) × Has logs l × Has l.entries x
 log_of_part [] t x h = absurd h
 log_of_part (l ∷ ls) t x h = by_test (log_of_part ls t x) (l.number.0 == t) h
   where
-    by_test : (Has (entries_of ls t) x → (k : ThreadLog) × HasLog ls k × Has k.entries x) → (b : Bool) → Has (if b then l.entries else entries_of ls t) x → (k : ThreadLog) × HasLog (l ∷ ls) k × Has k.entries x
+    by_test : (Has (entries_of ls t) x → (k : ThreadLog) × Has ls k × Has k.entries x) → (b : Bool) → Has (if b then l.entries else entries_of ls t) x → (k : ThreadLog) × Has (l ∷ ls) k × Has k.entries x
     by_test more true g = (l, inl refl, g)
     by_test more false g = let r = more g in (r.0, inr r.1, r.2)
 
@@ -79,11 +79,11 @@ starts_one x c is = ap (λ o. is_child o c) is ∙ eq-eqb c c refl
 
 -- the entries of logs are their own
 abbrev pub OwnEntries : List ThreadLog → Type 0
-OwnEntries logs = (l : ThreadLog) (x : Entry) → HasLog logs l → Has l.entries x → x.thread.0 ≡ l.number.0
+OwnEntries logs = (l : ThreadLog) (x : Entry) → Has logs l → Has l.entries x → x.thread.0 ≡ l.number.0
 
 -- a thread other than main has its Spawn entry before each entry for which that is known
-pub spawned_earlier : (main : ℕ) (logs : List ThreadLog) (a : HasThreads main logs) (log : ThreadLog) (e : Entry) → HasLog logs log → 0 < log.number.0
-    → ((k : ThreadLog) (s : Entry) → HasLog logs k → Has k.entries s → child_of s ≡ Some log.number.0 → s.stamp.0 < e.stamp.0)
+pub spawned_earlier : (main : ℕ) (logs : List ThreadLog) (a : HasThreads main logs) (log : ThreadLog) (e : Entry) → Has logs log → 0 < log.number.0
+    → ((k : ThreadLog) (s : Entry) → Has logs k → Has k.entries s → child_of s ≡ Some log.number.0 → s.stamp.0 < e.stamp.0)
     → SpawnedBefore (merged logs) log.number.0 e
 spawned_earlier main logs a log e g above order = elim (a.spawned log g) [
   | inl main_is ↦ absurd (omega (arith, main_is, above))
@@ -94,7 +94,7 @@ spawned_earlier main logs a log e g above order = elim (a.spawned log g) [
 
 pub stands_among : (M : Machine) (A : Allowed) (limits : Limits) (main : ℕ) (start : M.State) (logs : List ThreadLog)
     → (a : HasThreads main logs) → HasRuns M limits start logs → HasStampOrder logs → OwnEntries logs
-    → (log : ThreadLog) (e : Entry) → HasLog logs log → Has log.entries e
+    → (log : ThreadLog) (e : Entry) → Has logs log → Has log.entries e
     → (r : Request) → e.request ≡ r → IsEntryRight A e r → StandsAmong A (end_of logs) (merged logs) e r
 stands_among M A limits main start logs a b order own log e g h (request.Make size place) is right = right
 stands_among M A limits main start logs a b order own log e g h (request.Print v) is right = right
@@ -145,7 +145,7 @@ stands_among M A limits main start logs a b order own log e g h _ is right = rig
 pub tied_logs : (M : Machine) (A : Allowed) (limits : Limits) (main : ℕ) (start : M.State) (logs : List ThreadLog)
     → (a : HasThreads main logs) → HasRuns M limits start logs → HasStampOrder logs → OwnEntries logs
     → RisesFrom 0 (merged logs)
-    → ((log : ThreadLog) (e : Entry) → HasLog logs log → Has log.entries e → IsEntryRight A e e.request)
+    → ((log : ThreadLog) (e : Entry) → Has logs log → Has log.entries e → IsEntryRight A e e.request)
     → IsTied A (end_of logs) (merged logs)
 tied_logs M A limits main start logs a b order own rises right = record {
   rises = rises;

@@ -18,12 +18,12 @@ use Rattle.history.specs.declared.log.End.{End}
 use Rattle.history.specs.declared.log.ThreadLog.{ThreadLog}
 use Rattle.runs.specs.Interleaving.{World, world_after, Allowed, Replies, Interleaves, Legal, MakesUnmade}
 use Rattle.runs.specs.Machine.{Machine, Memory}
-use Rattle.runs.specs.Merge.{IsOwn, MayMerge, no_logs, one_more}
-use Rattle.runs.specs.Parts.{names, of_alloc, child_of, is_child, spawned_by, spawned_of}
+use Rattle.runs.specs.Merge.{all_entries, IsOwn, MayMerge, no_logs, one_more}
+use Rattle.runs.specs.Parts.{Has, names, of_alloc, child_of, is_child, spawned_by, spawned_of}
 use Rattle.runs.specs.ReplayLaw.{makes, MakesAlone}
-use Rattle.runs.specs.Right.{HasLog, AllocsRiseFrom, history_of, starts_thread, beyond, beyond_of, made_by, spawned_by_reply}
-use Rattle.runs.specs.Stamps.{Has, RisesFrom}
-use Rattle.runs.specs.Tree.{all_entries, stamps_of, started_by, Firsts, Agrees, first_numbers}
+use Rattle.runs.specs.Right.{AllocsRiseFrom, history_of, starts_thread, beyond, beyond_of, made_by, spawned_by_reply}
+use Rattle.runs.specs.Stamps.{RisesFrom}
+use Rattle.runs.specs.Tree.{stamps_of, started_by, Firsts, Agrees, first_numbers}
 use Rattle.runs.proofs.Counting.{one_if}
 use Rattle.runs.proofs.LogLists.{entry_weighs, log_weighs}
 use Rattle.runs.proofs.ReplaySums.{spawns}
@@ -85,7 +85,7 @@ list_weigh w v (e ∷ es) same =
     let more = list_weigh w v es (λ x h. same x (inr h)) in
     omega (arith, here, more, sum_by-cons w e es, sum_by-cons v e es)
 
-pub entries_weigh : (w v : Entry → ℕ) (ls : List ThreadLog) → ((l : ThreadLog) (e : Entry) → HasLog ls l → Has l.entries e → w e ≡ v e) → sum_by w (all_entries ls) ≡ sum_by v (all_entries ls)
+pub entries_weigh : (w v : Entry → ℕ) (ls : List ThreadLog) → ((l : ThreadLog) (e : Entry) → Has ls l → Has l.entries e → w e ≡ v e) → sum_by w (all_entries ls) ≡ sum_by v (all_entries ls)
 entries_weigh w v [] same = refl
 entries_weigh w v (l ∷ ls) same =
     let here = list_weigh w v l.entries (λ e h. same l e (inl refl) h) in
@@ -118,7 +118,7 @@ stamps_weigh h (l ∷ ls) =
       sum_by-append h (beyond_of l.«end») (beyond ls),
     )
 
-pub beyond_weigh : (h k : ℕ → ℕ) (ls : List ThreadLog) → ((l : ThreadLog) → HasLog ls l → sum_by h (beyond_of l.«end») ≡ sum_by k (beyond_of l.«end»)) → sum_by h (beyond ls) ≡ sum_by k (beyond ls)
+pub beyond_weigh : (h k : ℕ → ℕ) (ls : List ThreadLog) → ((l : ThreadLog) → Has ls l → sum_by h (beyond_of l.«end») ≡ sum_by k (beyond_of l.«end»)) → sum_by h (beyond ls) ≡ sum_by k (beyond ls)
 beyond_weigh h k [] same = refl
 beyond_weigh h k (l ∷ ls) same =
     let here = same l (inl refl) in
@@ -130,7 +130,7 @@ nothing_weighs [] = refl
 nothing_weighs (x ∷ xs) = let more = nothing_weighs xs in omega (arith, more, sum_by-cons (λ (n : ℕ). 0) x xs)
 
 -- logs of which no stamp stands twice may merge
-pub once_may_merge : (ls : List ThreadLog) → ((l : ThreadLog) → HasLog ls l → IsOwn l.number.0 l.entries × RisesFrom 0 l.entries) → ((s : ℕ) → sum_by (λ (e : Entry). equals s e.stamp.0) (all_entries ls) ≤ 1) → MayMerge ls
+pub once_may_merge : (ls : List ThreadLog) → ((l : ThreadLog) → Has ls l → IsOwn l.number.0 l.entries × RisesFrom 0 l.entries) → ((s : ℕ) → sum_by (λ (e : Entry). equals s e.stamp.0) (all_entries ls) ≤ 1) → MayMerge ls
 once_may_merge [] each once = no_logs
 once_may_merge (l ∷ ls) each once = one_more (each l (inl refl)).0 (each l (inl refl)).1
     (λ x y hx hy same.

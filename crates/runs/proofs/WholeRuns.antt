@@ -22,15 +22,15 @@ use Rattle.history.specs.declared.log.ThreadLog.{ThreadLog}
 use Rattle.history.specs.declared.record.RunRecord.{RunRecord}
 use Rattle.runs.specs.Interleaving.{Allowed, Legal, first_world}
 use Rattle.runs.specs.Machine.{Machine, Memory}
-use Rattle.runs.specs.Merge.{merged, MayMerge, IsMerge}
-use Rattle.runs.specs.Parts.{names, of_alloc, of_thread, child_of, spawned_by, spawned_of}
+use Rattle.runs.specs.Merge.{all_entries, merged, MayMerge, IsPartwiseMerge}
+use Rattle.runs.specs.Parts.{Has, names, of_alloc, of_thread, child_of, spawned_by, spawned_of}
 use Rattle.runs.specs.ReplayLaw.{makes, MakesAlone}
 use Rattle.history.specs.Histories.{is_make_step}
-use Rattle.runs.specs.Right.{HasLog, NumbersRiseFrom, HasThreads, HasRuns, HasHistories, HasCounts, MergesToRun, IsRight, IsReached, is_main, is_spawned, end_of, history_of, starts_thread, beyond, beyond_of, counting_from, alloc_numbers, thread_numbers, made_by, spawned_by_reply, alloc_limit_of, thread_limit_of, is_spawn, asks_make, asks_spawn, StandsAsking, DrawnAtMost}
-use Rattle.runs.specs.Stamps.{Has, RisesFrom}
+use Rattle.runs.specs.Right.{NumbersRiseFrom, HasThreads, HasRuns, HasHistories, HasCounts, MergesToRun, IsRight, IsReached, is_main, is_spawned, end_of, history_of, starts_thread, beyond, beyond_of, counting_from, alloc_numbers, thread_numbers, made_by, spawned_by_reply, alloc_limit_of, thread_limit_of, is_spawn, asks_make, asks_spawn, StandsAsking, DrawnAtMost}
+use Rattle.runs.specs.Stamps.{RisesFrom}
 use Rattle.runs.specs.Theorem.{HasPromises, WholeRunsAreRight, NumbersDiffer}
 use Rattle.runs.specs.Threads.{EndsAs}
-use Rattle.runs.specs.Tree.{HasStampOrder, IsEntryRight, all_entries, numbers_of, stamps_of, started_by, children_of, IsStarted, AreRuns, IsTree, IsWholeRun}
+use Rattle.runs.specs.Tree.{HasStampOrder, IsEntryRight, numbers_of, stamps_of, started_by, children_of, IsStarted, AreRuns, IsTree, IsWholeRun}
 use Rattle.runs.proofs.Assembly.{promises_make_one_run}
 use Rattle.runs.proofs.Counting.{one_if, one_passes, count_there}
 use Rattle.runs.proofs.Countings.{length_counting, counting_once, counting_zero, once_differ, counting_high, counting_split, up_to, above, one, low_up_to, low_above, high_up_to, high_above, counting_up_to, counting_beyond, counting_not_above, counting_above, Cut, cut, some_drawn}
@@ -90,25 +90,25 @@ module _ (M : Machine) (O : Memory) (A : Allowed) (limits : Limits) (main : ℕ)
   abbrev t : IsTree M O A limits (record { 0 = 0 }) None main start 0 logs w.idle_allocs w.idle_threads
   t = w.tree
 
-  there : (l : ThreadLog) → HasLog logs l → HasLog ls l
+  there : (l : ThreadLog) → Has logs l → Has ls l
   there = moved logs ls p
 
-  back : (l : ThreadLog) → HasLog ls l → HasLog logs l
+  back : (l : ThreadLog) → Has ls l → Has logs l
   back = moved ls logs (IsPermutation-sym logs ls p)
 
   own_zero : t.own.number.0 ≡ 0
   own_zero = ap (λ (n : ThreadNo). n.0) t.own_number
 
-  own_there : HasLog ls t.own
-  own_there = there t.own (subst (λ xs. HasLog xs t.own) (sym t.parts) (inl refl))
+  own_there : Has ls t.own
+  own_there = there t.own (subst (λ xs. Has xs t.own) (sym t.parts) (inl refl))
 
-  below_there : (l : ThreadLog) → HasLog t.below l → HasLog ls l
-  below_there l h = there l (subst (λ xs. HasLog xs l) (sym t.parts) (inr h))
+  below_there : (l : ThreadLog) → Has t.below l → Has ls l
+  below_there l h = there l (subst (λ xs. Has xs l) (sym t.parts) (inr h))
 
-  begins : (l : ThreadLog) → HasLog ls l → (l.number.0 ≡ 0) ⊎ IsStarted logs l
-  begins l h = by_place (subst (λ xs. HasLog xs l) t.parts (back l h))
+  begins : (l : ThreadLog) → Has ls l → (l.number.0 ≡ 0) ⊎ IsStarted logs l
+  begins l h = by_place (subst (λ xs. Has xs l) t.parts (back l h))
     where
-      by_place : HasLog (t.own ∷ t.below) l → (l.number.0 ≡ 0) ⊎ IsStarted logs l
+      by_place : Has (t.own ∷ t.below) l → (l.number.0 ≡ 0) ⊎ IsStarted logs l
       by_place (inl same) = inl (ap (λ (z : ThreadLog). z.number.0) (sym same) ∙ own_zero)
       by_place (inr g) = inr (t.started l g)
 
@@ -143,7 +143,7 @@ module _ (M : Machine) (O : Memory) (A : Allowed) (limits : Limits) (main : ℕ)
       let b = once_below c in
       one_passes (starts_thread c) (merged ls) x y (omega (arith, a, b)) hx hy (starts_one x c is_x) (starts_one y c is_y)
 
-  below_once : (l : ThreadLog) → HasLog ls l → 0 < l.number.0 → sum_by (equals l.number.0) (numbers_of t.below) ≡ 1
+  below_once : (l : ThreadLog) → Has ls l → 0 < l.number.0 → sum_by (equals l.number.0) (numbers_of t.below) ≡ 1
   below_once l h above_zero =
       let some = number_there ls l h in
       let few = once l.number.0 in
@@ -194,7 +194,7 @@ module _ (M : Machine) (O : Memory) (A : Allowed) (limits : Limits) (main : ℕ)
   all_runs : AreRuns M limits starts logs w.idle_allocs w.idle_threads
   all_runs = t.runs starts start_zero (first_agrees t.firsts start firsts_once)
 
-  reached : (bound : ℕ) (l : ThreadLog) → HasLog ls l → l.number.0 < bound → IsReached ls l.number.0
+  reached : (bound : ℕ) (l : ThreadLog) → Has ls l → l.number.0 < bound → IsReached ls l.number.0
   reached zero l h less = absurd (omega (arith, less))
   reached (suc bound) l h less = elim (begins l h) [
     | inl z ↦ subst (λ n. IsReached ls n) (sym z) is_main
@@ -204,7 +204,7 @@ module _ (M : Machine) (O : Memory) (A : Allowed) (limits : Limits) (main : ℕ)
         (subst (λ es. Has es s.spawn) (sym (entries_there 0 ls s.parent rise (there s.parent s.there))) s.stands) s.answers
   ]
 
-  end_is : (c : ThreadNo) (child : ThreadLog) → HasLog ls child → child.number ≡ c → end_of ls c.0 ≡ child.«end»
+  end_is : (c : ThreadNo) (child : ThreadLog) → Has ls child → child.number ≡ c → end_of ls c.0 ≡ child.«end»
   end_is c child h same = ap (λ (n : ThreadNo). end_of ls n.0) (sym same) ∙ end_there 0 ls child rise h
 
   abbrev right_runs : HasRuns M limits start ls
@@ -234,13 +234,13 @@ module _ (M : Machine) (O : Memory) (A : Allowed) (limits : Limits) (main : ℕ)
   merges : MayMerge ls
   merges = once_may_merge ls (λ l h. (let run = all_runs.each l (back l h) in (run_own M limits starts l run, run.rises))) stamp_once
 
-  abbrev merge : IsMerge ls (merged ls)
+  abbrev merge : IsPartwiseMerge ls (merged ls)
   merge = merged_is_merge ls rise merges
 
-  low_stamp : (l : ThreadLog) (e : Entry) → HasLog ls l → Has l.entries e → e.stamp.0 ≤ limits.steps
+  low_stamp : (l : ThreadLog) (e : Entry) → Has ls l → Has l.entries e → e.stamp.0 ≤ limits.steps
   low_stamp l e h g = (t.steps l e (back l h) g).within
 
-  high_end : (l : ThreadLog) → HasLog ls l → (x : Rattle.bsan_ids.specs.declared.numbers.Stamp.Stamp) → l.«end» ≡ log_end.StepLimit x → limits.steps < x.0
+  high_end : (l : ThreadLog) → Has ls l → (x : Rattle.bsan_ids.specs.declared.numbers.Stamp.Stamp) → l.«end» ≡ log_end.StepLimit x → limits.steps < x.0
   high_end l h x is =
       let run = all_runs.each l (back l h) in
       let ends : EndsAs M limits run.last (log_end.StepLimit x) = subst (λ e. EndsAs M limits run.last e) is run.«end» in ends.1

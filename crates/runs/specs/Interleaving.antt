@@ -43,18 +43,24 @@ pub record Allowed : Type 1 where
   pub allocs : ℕ
   pub host : ℕ → ℕ → ℕ → ℕ → Type 0
 
+-- what is said of an entry by its request: this of a Make, of a Spawn, of a Join and of a step on a number. A Print is done, and
+-- a host answers a word that it may answer
+abbrev pub ByRequest : Allowed → Entry → Type 0 → Type 0 → (ThreadNo → Type 0) → Type 0 → Request → Type 0
+ByRequest A e made spawned joined on (request.Make size place) = made
+ByRequest A e made spawned joined on (request.Print v) = e.reply ≡ clean plain.Done None
+ByRequest A e made spawned joined on (request.Host n x y) = (v : ℕ) × A.host n x y v × (e.reply ≡ clean (plain.Value v) None)
+ByRequest A e made spawned joined on (request.Spawn f) = spawned
+ByRequest A e made spawned joined on (request.Join c) = joined c
+ByRequest A e made spawned joined on _ = on
+
 -- the reply is the one, or one of those, that the world gives
 abbrev pub Replies : (M : Machine) → (O : Memory) → Allowed → World M O → Entry → Request → Type 0
-Replies M O A w e (request.Make size place) =
-    (a : AllocNo) × (e.alloc ≡ Some a) × (0 < a.0) × (a.0 ≤ A.allocs) × (O.made (w.objects a.0) ≡ false) × (e.reply ≡ O.reply (w.objects a.0) e.request e.stamp.0)
-Replies M O A w e (request.Print v) = e.reply ≡ clean plain.Done None
-Replies M O A w e (request.Host n x y) =
-    (v : ℕ) × A.host n x y v × (e.reply ≡ clean (plain.Value v) None)
-Replies M O A w e (request.Spawn f) =
-    (c : ThreadNo) × (0 < c.0) × (c.0 ≤ 1023) × (w.threads c.0 ≡ None) × (e.reply ≡ clean (plain.Spawned c) None)
-Replies M O A w e (request.Join c) =
-    (v : ℕ) × (p : Option Prov) × HasReturned M (w.threads c.0) v p × (e.reply ≡ clean (plain.Value v) p)
-Replies M O A w e _ = (a : AllocNo) × (e.alloc ≡ Some a) × (e.reply ≡ O.reply (w.objects a.0) e.request e.stamp.0)
+Replies M O A w e =
+    ByRequest A e
+    ((a : AllocNo) × (e.alloc ≡ Some a) × (0 < a.0) × (a.0 ≤ A.allocs) × (O.made (w.objects a.0) ≡ false) × (e.reply ≡ O.reply (w.objects a.0) e.request e.stamp.0))
+    ((c : ThreadNo) × (0 < c.0) × (c.0 ≤ 1023) × (w.threads c.0 ≡ None) × (e.reply ≡ clean (plain.Spawned c) None))
+    (λ c. ((v : ℕ) × (p : Option Prov) × HasReturned M (w.threads c.0) v p × (e.reply ≡ clean (plain.Value v) p)))
+    ((a : AllocNo) × (e.alloc ≡ Some a) × (e.reply ≡ O.reply (w.objects a.0) e.request e.stamp.0))
 
 -- in this world the entry may come next
 pub record Event (M : Machine) (O : Memory) (A : Allowed) (w : World M O) (e : Entry) : Type 0 where

@@ -13,5 +13,4 @@ pub mod Theorem
 pub mod ReplayLaw
 pub mod PlainObjects
 pub mod RightErasure
-pub mod OneMerge
 pub mod Objects

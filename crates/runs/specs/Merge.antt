@@ -1,19 +1,17 @@
 -- All entries of the threads' logs in the order of their stamps.
 use Rattle.std.specs.Prelude.{◌≡◌, ◌≢◌, ℕ, ◌==◌, if◌then◌else◌, List, [], ◌∷◌}
+use Rattle.std.specs.List.{flat_map}
 use Rattle.history.specs.declared.entry.Entry.{Entry}
-use Rattle.history.specs.Merge.{put_by_stamp}
+use Rattle.history.specs.Merge.{by_stamp}
 use Rattle.history.specs.declared.log.ThreadLog.{ThreadLog}
-use Rattle.runs.specs.Parts.{of_thread}
-use Rattle.runs.specs.Stamps.{Has, RisesFrom}
+use Rattle.runs.specs.Parts.{Has, of_thread}
+use Rattle.runs.specs.Stamps.{RisesFrom}
 
--- both lists, in stamp order where the second is
-abbrev pub merged_with : List Entry → List Entry → List Entry
-merged_with [] ys = ys
-merged_with (x ∷ xs) ys = put_by_stamp x (merged_with xs ys)
+abbrev pub all_entries : List ThreadLog → List Entry
+all_entries logs = flat_map (λ log. log.entries) logs
 
 abbrev pub merged : List ThreadLog → List Entry
-merged [] = []
-merged (log ∷ logs) = merged_with log.entries (merged logs)
+merged logs = by_stamp (all_entries logs)
 
 -- the entries of the log with this number, or none
 abbrev pub entries_of : List ThreadLog → ℕ → List Entry
@@ -21,7 +19,7 @@ entries_of [] t = []
 entries_of (log ∷ logs) t = if log.number.0 == t then log.entries else entries_of logs t
 
 -- in stamp order, and each thread's part is its log
-pub record IsMerge (logs : List ThreadLog) (entries : List Entry) : Type 0 where
+pub record IsPartwiseMerge (logs : List ThreadLog) (entries : List Entry) : Type 0 where
   pub rises : RisesFrom 0 entries
   pub parts : (t : ℕ) → of_thread t entries ≡ entries_of logs t
 

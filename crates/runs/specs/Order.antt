@@ -8,7 +8,6 @@ use Rattle.history.specs.declared.log.End.TheVariants as log_end
 use Rattle.bsan_ids.specs.declared.numbers.AllocNo.{AllocNo}
 use Rattle.bsan_ids.specs.declared.numbers.ThreadNo.{ThreadNo}
 use Rattle.history.specs.declared.entry.Request.{Request}
-use Rattle.history.specs.declared.entry.Request.TheVariants as request
 use Rattle.history.specs.declared.entry.Plain.TheVariants as plain
 use Rattle.history.specs.declared.ask.Ask.TheVariants as ask
 use Rattle.history.specs.declared.ask.MachineEnd.TheVariants as end
@@ -16,19 +15,15 @@ use Rattle.history.specs.Objects.{clean}
 use Rattle.runs.specs.Parts.{of_thread, child_of, is_child}
 use Rattle.runs.specs.Machine.{Machine}
 use Rattle.runs.specs.Threads.{Feeds}
-use Rattle.runs.specs.Interleaving.{Allowed}
+use Rattle.runs.specs.Interleaving.{Allowed, ByRequest}
 
 -- an entry, the first of these, stands right among the threads: its numbers are allowed, a child is new, and a joined child has returned
 abbrev pub StandsRight : Allowed → (ℕ → End) → (ℕ → Bool) → List Entry → Entry → Request → Type 0
-StandsRight A ends started es e (request.Make size place) = (a : AllocNo) × (e.alloc ≡ Some a) × (0 < a.0) × (a.0 ≤ A.allocs)
-StandsRight A ends started es e (request.Print v) = e.reply ≡ clean plain.Done None
-StandsRight A ends started es e (request.Host n x y) =
-    (v : ℕ) × A.host n x y v × (e.reply ≡ clean (plain.Value v) None)
-StandsRight A ends started es e (request.Spawn f) =
-    (c : ThreadNo) × (0 < c.0) × (c.0 ≤ 1023) × (started c.0 ≡ false) × (e.reply ≡ clean (plain.Spawned c) None)
-StandsRight A ends started es e (request.Join c) =
-    (v : ℕ) × (p : Option Prov) × (started c.0 ≡ true) × (of_thread c.0 es ≡ []) × (ends c.0 ≡ log_end.Returned v p) × (e.reply ≡ clean (plain.Value v) p)
-StandsRight A ends started es e _ = (a : AllocNo) × (e.alloc ≡ Some a)
+StandsRight A ends started es e =
+    ByRequest A e ((a : AllocNo) × (e.alloc ≡ Some a) × (0 < a.0) × (a.0 ≤ A.allocs))
+    ((c : ThreadNo) × (0 < c.0) × (c.0 ≤ 1023) × (started c.0 ≡ false) × (e.reply ≡ clean (plain.Spawned c) None))
+    (λ c. ((v : ℕ) × (p : Option Prov) × (started c.0 ≡ true) × (of_thread c.0 es ≡ []) × (ends c.0 ≡ log_end.Returned v p) × (e.reply ≡ clean (plain.Value v) p)))
+    ((a : AllocNo) × (e.alloc ≡ Some a))
 
 abbrev pub with_child : (ℕ → Bool) → Option ℕ → ℕ → Bool
 with_child started c t = if is_child c t then true else started t

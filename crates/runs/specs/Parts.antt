@@ -1,6 +1,7 @@
--- Entries of one thread, entries on one number, and what an entry answers.
-use Rattle.std.specs.Prelude.{◌≡◌, ℕ, ◌==◌, Bool, false, if◌then◌else◌, List, [], ◌∷◌, Some, None}
+-- Members of a list, entries of one thread, entries on one number, and what an entry answers.
+use Rattle.std.specs.Prelude.{◌≡◌, ◌⊎◌, ℕ, ◌==◌, Bool, false, List, [], ◌∷◌, Some, None}
 use Rattle.std.specs.declared.option.Option.{Option}
+use Rattle.history.specs.Restriction as restriction
 use Rattle.history.specs.declared.entry.Entry.{Entry}
 use Rattle.history.specs.declared.entry.Request.{Request}
 use Rattle.history.specs.declared.entry.Request.TheVariants as request
@@ -10,19 +11,20 @@ use Rattle.bsan_ids.specs.declared.numbers.AllocNo.{AllocNo}
 use Rattle.history.specs.declared.ask.Ask.{Ask}
 use Rattle.history.specs.declared.ask.Ask.TheVariants as ask
 
--- the entries of one thread
+-- the element is one of these
+abbrev pub Has : {A : Type 0} → List A → A → Type 0
+Has [] x = ⊥
+Has (y ∷ ys) x = (y ≡ x) ⊎ Has ys x
+
+-- the entries of the thread of this number, and those on the allocation of this number
 abbrev pub of_thread : ℕ → List Entry → List Entry
-of_thread t [] = []
-of_thread t (e ∷ es) = if e.thread.0 == t then e ∷ of_thread t es else of_thread t es
+of_thread t entries = restriction.of_thread (record { 0 = t }) entries
 
 abbrev pub names : Option AllocNo → ℕ → Bool
-names None a = false
-names (Some b) a = b.0 == a
+names number a = restriction.names (record { 0 = a }) number
 
--- the entries on one number
 abbrev pub of_alloc : ℕ → List Entry → List Entry
-of_alloc a [] = []
-of_alloc a (e ∷ es) = if names e.alloc a then e ∷ of_alloc a es else of_alloc a es
+of_alloc a entries = restriction.of_alloc (record { 0 = a }) entries
 
 abbrev pub spawned_of : Plain → Option ℕ
 spawned_of (plain.Spawned c) = Some c.0

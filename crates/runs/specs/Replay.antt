@@ -20,7 +20,7 @@ use Rattle.history.specs.Objects.{clean}
 use Rattle.runs.specs.Parts.{Answers}
 use Rattle.runs.specs.Machine.{Machine, Memory, MayGoOn, SettlesWithin}
 use Rattle.runs.specs.Threads.{AsksStep, AsksMake, AsksSpawn, IsOwnTrap, EndsAs}
-use Rattle.runs.specs.Interleaving.{Allowed}
+use Rattle.runs.specs.Interleaving.{Allowed, ByRequest}
 
 -- a started thread, with its log so far
 pub record Fiber (M : Machine) : Type 0 where
@@ -53,7 +53,7 @@ waits M O p _ = false
 abbrev pub CanGoOn : (M : Machine) → (O : Memory) → Progress M O → ℕ → Type 0
 CanGoOn M O p t = (f : Fiber M) × (slice_get p.threads t ≡ Some f) × (f.«end» ≡ None) × (waits M O p (M.ask f.state) ≡ false)
 
--- an end that comes of the thread's own state, or of want of memory: nothing is drawn for it, and no other thread is asked
+-- an end that comes of the thread's own state, or of having no memory: nothing is drawn for it, and no other thread is asked
 abbrev pub IsOwnEnd : End → Type 0
 IsOwnEnd (log_end.Returned v p) = Unit {0}
 IsOwnEnd (log_end.Trapped t) = IsOwnTrap t
@@ -93,16 +93,12 @@ EndsNext M O limits p a e = Unit {0}
 
 -- the reply of a step, with the next numbers
 abbrev pub RepliesNext : (M : Machine) → (O : Memory) → Allowed → Progress M O → Entry → Request → Type 0
-RepliesNext M O A p e (request.Make size place) =
-    (e.alloc ≡ Some (record { 0 = p.words.allocs + 1 })) × (e.reply ≡ O.reply (object_at M O p (p.words.allocs + 1)) e.request e.stamp.0)
-RepliesNext M O A p e (request.Print v) = e.reply ≡ clean plain.Done None
-RepliesNext M O A p e (request.Host n x y) =
-    (v : ℕ) × A.host n x y v × (e.reply ≡ clean (plain.Value v) None)
-RepliesNext M O A p e (request.Spawn f) =
-    e.reply ≡ clean (plain.Spawned (record { 0 = p.words.threads + 1 })) None
-RepliesNext M O A p e (request.Join c) =
-    (v : ℕ) × (q : Option Prov) × (end_at M O p c.0 ≡ Some (log_end.Returned v q)) × (e.reply ≡ clean (plain.Value v) q)
-RepliesNext M O A p e _ = (a : AllocNo) × (e.alloc ≡ Some a) × (e.reply ≡ O.reply (object_at M O p a.0) e.request e.stamp.0)
+RepliesNext M O A p e =
+    ByRequest A e
+    ((e.alloc ≡ Some (record { 0 = p.words.allocs + 1 })) × (e.reply ≡ O.reply (object_at M O p (p.words.allocs + 1)) e.request e.stamp.0))
+    (e.reply ≡ clean (plain.Spawned (record { 0 = p.words.threads + 1 })) None)
+    (λ c. ((v : ℕ) × (q : Option Prov) × (end_at M O p c.0 ≡ Some (log_end.Returned v q)) × (e.reply ≡ clean (plain.Value v) q)))
+    ((a : AllocNo) × (e.alloc ≡ Some a) × (e.reply ≡ O.reply (object_at M O p a.0) e.request e.stamp.0))
 
 abbrev pub Chooses : (M : Machine) → (O : Memory) → Allowed → Limits → Progress M O → ℕ → Fiber M → Choice M → Type 0
 Chooses M O A limits p t f (Waits now) = SettlesWithin M limits.turns f.state now × MayGoOn M limits.turns now × (waits M O p (M.ask now) ≡ true)

@@ -22,19 +22,15 @@ use Rattle.history.specs.declared.log.ThreadLog.{ThreadLog}
 use Rattle.bsan_ids.specs.declared.numbers.ThreadNo.{ThreadNo}
 use Rattle.history.specs.declared.trap.Trap.{Trap}
 use Rattle.history.specs.declared.trap.Trap.TheVariants as trap
-use Rattle.runs.specs.Parts.{of_thread, of_alloc, child_of, is_child}
+use Rattle.runs.specs.Parts.{Has, of_thread, of_alloc, child_of, is_child}
 use Rattle.runs.specs.Machine.{Machine, Memory, Settles}
 use Rattle.runs.specs.Threads.{Feeds, IsThreadRun, AsksMake, AsksSpawn}
 use Rattle.runs.specs.Interleaving.{first_world, Allowed, Interleaves, Legal, last_world}
 use Rattle.runs.specs.Erasure.{erasure}
-use Rattle.runs.specs.Stamps.{Has, RisesFrom}
+use Rattle.runs.specs.Stamps.{RisesFrom}
 use Rattle.runs.specs.Merge.{merged, entries_of}
 
--- the log is one of these
-abbrev pub HasLog : List ThreadLog → ThreadLog → Type 0
-HasLog [] log = ⊥
-HasLog (l ∷ ls) log = (l ≡ log) ⊎ HasLog ls log
-
+-- the numbers of the logs rise, from n on
 abbrev pub NumbersRiseFrom : ℕ → List ThreadLog → Type 0
 NumbersRiseFrom n [] = Unit {0}
 NumbersRiseFrom n (l ∷ ls) = (n ≤ l.number.0) × NumbersRiseFrom (suc l.number.0) ls
@@ -61,11 +57,11 @@ pub record IsSpawnedOnce (logs : List ThreadLog) (log : ThreadLog) : Type 0 wher
 -- (a) the threads
 pub record HasThreads (main : ℕ) (logs : List ThreadLog) : Type 0 where
   pub rise : NumbersRiseFrom 0 logs
-  pub first : (log : ThreadLog) → HasLog logs log → log.number.0 ≡ 0 → (log.parent ≡ None) × (log.entry_function ≡ main)
-  pub has_first : (log : ThreadLog) × HasLog logs log × (log.number.0 ≡ 0)
-  pub spawned : (log : ThreadLog) → HasLog logs log → (log.number.0 ≡ 0) ⊎ IsSpawnedOnce logs log
-  pub children : (log : ThreadLog) (e : Entry) (f : ℕ) → HasLog logs log → Has log.entries e → e.request ≡ request.Spawn f
-      → (child : ThreadLog) × HasLog logs child × (e.reply.plain ≡ plain.Spawned child.number)
+  pub first : (log : ThreadLog) → Has logs log → log.number.0 ≡ 0 → (log.parent ≡ None) × (log.entry_function ≡ main)
+  pub has_first : (log : ThreadLog) × Has logs log × (log.number.0 ≡ 0)
+  pub spawned : (log : ThreadLog) → Has logs log → (log.number.0 ≡ 0) ⊎ IsSpawnedOnce logs log
+  pub children : (log : ThreadLog) (e : Entry) (f : ℕ) → Has logs log → Has log.entries e → e.request ≡ request.Spawn f
+      → (child : ThreadLog) × Has logs child × (e.reply.plain ≡ plain.Spawned child.number)
 
 -- a chain of Spawn entries leads from log 0 to the log of this thread
 pub data IsReached : List ThreadLog → ℕ → Type 0 where
@@ -77,12 +73,12 @@ pub data IsReached : List ThreadLog → ℕ → Type 0 where
 pub record HasRuns (M : Machine) (limits : Limits) (main : M.State) (logs : List ThreadLog) : Type 0 where
   pub starts : ℕ → M.State
   pub first : starts 0 ≡ main
-  pub reached : (log : ThreadLog) → HasLog logs log → IsReached logs log.number.0
-  pub runs : (log : ThreadLog) → HasLog logs log → IsThreadRun M limits starts log
-  pub joined : (log : ThreadLog) (e : Entry) (c : ThreadNo) → HasLog logs log → Has log.entries e → e.request ≡ request.Join c
-      → (v : ℕ) × (e.reply.plain ≡ plain.Value v) × (end_of logs c.0 ≡ log_end.Returned v e.reply.carried) × ((child : ThreadLog) × HasLog logs child × (child.number ≡ c))
-  pub ended : (log : ThreadLog) (c : ThreadNo) → HasLog logs log → log.«end» ≡ log_end.ChildEnded c
-      → ((child : ThreadLog) × HasLog logs child × (child.number ≡ c)) × ((v : ℕ) (p : Option Prov) → end_of logs c.0 ≢ log_end.Returned v p)
+  pub reached : (log : ThreadLog) → Has logs log → IsReached logs log.number.0
+  pub runs : (log : ThreadLog) → Has logs log → IsThreadRun M limits starts log
+  pub joined : (log : ThreadLog) (e : Entry) (c : ThreadNo) → Has logs log → Has log.entries e → e.request ≡ request.Join c
+      → (v : ℕ) × (e.reply.plain ≡ plain.Value v) × (end_of logs c.0 ≡ log_end.Returned v e.reply.carried) × ((child : ThreadLog) × Has logs child × (child.number ≡ c))
+  pub ended : (log : ThreadLog) (c : ThreadNo) → Has logs log → log.«end» ≡ log_end.ChildEnded c
+      → ((child : ThreadLog) × Has logs child × (child.number ≡ c)) × ((v : ℕ) (p : Option Prov) → end_of logs c.0 ≢ log_end.Returned v p)
 
 -- the k-th entry has the stamp k
 abbrev pub Numbered : ℕ → List Entry → Type 0
@@ -100,6 +96,7 @@ abbrev pub history_of : List AllocLog → ℕ → List Entry
 history_of [] a = []
 history_of (l ∷ ls) a = if l.number.0 == a then l.entries else history_of ls a
 
+-- the numbers of the allocation logs rise above n, up to the limit, and no log is empty
 abbrev pub AllocsRiseFrom : ℕ → ℕ → List AllocLog → Type 0
 AllocsRiseFrom n limit [] = Unit {0}
 AllocsRiseFrom n limit (l ∷ ls) = (n < l.number.0) × (l.number.0 ≤ limit) × (l.entries ≢ []) × AllocsRiseFrom l.number.0 limit ls
@@ -117,6 +114,7 @@ TrapsPlainly P q (trap.AllocLimit d) = AsksMake (P.ask q)
 TrapsPlainly P q (trap.ThreadLimit d) = AsksSpawn (P.ask q)
 TrapsPlainly P q t = P.ask q ≡ ask.Ended (end.Trapped t)
 
+-- the plain thread returns the same word, meets the same trap, or asks for the number that its log's end names
 abbrev pub EndsPlainly : (P : Machine) → P.State → End → Type 0
 EndsPlainly P q (log_end.Returned v p) = P.ask q ≡ ask.Ended (end.Returned v None)
 EndsPlainly P q (log_end.Trapped t) = TrapsPlainly P q t
@@ -125,7 +123,7 @@ EndsPlainly P q e = Unit {0}
 -- (e) the erasure of the merge is a run of the plain program, in which each thread ends alike
 pub record ErasesToPlainRun (P : Machine) (Q : Memory) (A : Allowed) (main : P.State) (logs : List ThreadLog) : Type 0 where
   pub run : Interleaves P Q A (first_world P Q main) (erasure (merged logs))
-  pub ends : (log : ThreadLog) → HasLog logs log
+  pub ends : (log : ThreadLog) → Has logs log
       → (p q : P.State) × ((last_world P Q A (first_world P Q main) (erasure (merged logs)) run).threads log.number.0 ≡ Some p) × Settles P p q × EndsPlainly P q log.«end»
 
 -- (f) the stamps above the limit, and the numbers that Make and Spawn drew
@@ -133,9 +131,11 @@ abbrev pub beyond_of : End → List ℕ
 beyond_of (log_end.StepLimit s) = s.0 ∷ []
 beyond_of _ = []
 
+-- the stamps above the limit that ended threads
 abbrev pub beyond : List ThreadLog → List ℕ
 beyond logs = flat_map (λ l. beyond_of l.«end») logs
 
+-- n, n + 1, .., as many as the second number says
 abbrev pub counting_from : ℕ → ℕ → List ℕ
 counting_from n zero = []
 counting_from n (suc k) = n ∷ counting_from (n + 1) k
@@ -145,30 +145,36 @@ abbrev pub made_by : Plain → List ℕ
 made_by (plain.Made a) = a.0 ∷ []
 made_by _ = []
 
+-- the thread that a reply names
 abbrev pub spawned_by_reply : Plain → List ℕ
 spawned_by_reply (plain.Spawned c) = c.0 ∷ []
 spawned_by_reply _ = []
 
+-- the allocation number that an end names
 abbrev pub alloc_limit_of : End → List ℕ
 alloc_limit_of (log_end.Trapped (trap.AllocLimit d)) = d ∷ []
 alloc_limit_of _ = []
 
+-- the thread number that an end names
 abbrev pub thread_limit_of : End → List ℕ
 thread_limit_of (log_end.Trapped (trap.ThreadLimit d)) = d ∷ []
 thread_limit_of _ = []
 
+-- all allocation numbers that a log names as made or drawn, and all thread numbers
 abbrev pub alloc_numbers : ThreadLog → List ℕ
 alloc_numbers log = flat_map (λ e. made_by e.reply.plain) log.entries ++ alloc_limit_of log.«end»
 
 abbrev pub thread_numbers : ThreadLog → List ℕ
 thread_numbers log = flat_map (λ e. spawned_by_reply e.reply.plain) log.entries ++ thread_limit_of log.«end»
 
+-- is the entry a Spawn
 abbrev pub is_spawn : Entry → Bool
 is_spawn e = is_spawn_request e.request where
   is_spawn_request : Request → Bool
   is_spawn_request (request.Spawn f) = true
   is_spawn_request _ = false
 
+-- does the thread ask for an allocation number, or for a thread number
 abbrev pub asks_make : Ask → Bool
 asks_make (ask.Make size place) = true
 asks_make _ = false
@@ -194,6 +200,7 @@ AtLeast P (suc n) (l ∷ ls) = (P l × AtLeast P n ls) ⊎ AtLeast P (suc n) ls
 abbrev pub DrawnAtMost : (M : Machine) → (Ask → Bool) → (Entry → Bool) → Limits → (ℕ → M.State) → List ThreadLog → ℕ → Type 0
 DrawnAtMost M asks is_one limits starts logs drawn = (n : ℕ) × AtLeast (StandsAsking M asks limits starts) n logs × (drawn ≤ count_by is_one (merged logs) + n)
 
+-- (f) the counters of the record against its logs
 pub record HasCounts (M : Machine) (limits : Limits) (starts : ℕ → M.State) (logs : List ThreadLog) (words : Counters) : Type 0 where
   pub stamps : words.stamps ≡ length (merged logs) + length (beyond logs)
   pub above : IsPermutation (beyond logs) (counting_from (limits.steps + 1) (length (beyond logs)))

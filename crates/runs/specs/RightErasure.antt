@@ -6,9 +6,10 @@ use Rattle.history.specs.declared.trap.Trap.TheVariants as trap
 use Rattle.history.specs.declared.log.End.{End}
 use Rattle.history.specs.declared.log.End.TheVariants as log_end
 use Rattle.history.specs.declared.log.ThreadLog.{ThreadLog}
+use Rattle.runs.specs.Parts.{Has}
 use Rattle.runs.specs.Machine.{Machine, Settles}
 use Rattle.runs.specs.Threads.{AsksMake, AsksSpawn}
-use Rattle.runs.specs.Right.{HasLog, HasRuns}
+use Rattle.runs.specs.Right.{HasRuns}
 
 -- who asks a Make or a Spawn is mirrored by one that does after local turns
 pub record AsksAlike (M P : Machine) (mirrors : M.State → P.State → Type 0) : Type 0 where
@@ -22,4 +23,4 @@ LimitAsked a (log_end.Trapped (trap.ThreadLimit d)) = AsksSpawn a
 LimitAsked a e = Unit {0}
 
 abbrev pub LimitsAreAsked : (M : Machine) (limits : Limits) (main : M.State) (logs : List ThreadLog) → HasRuns M limits main logs → Type 0
-LimitsAreAsked M limits main logs own = (log : ThreadLog) (h : HasLog logs log) → LimitAsked (M.ask (own.runs log h).last) log.«end»
+LimitsAreAsked M limits main logs own = (log : ThreadLog) (h : Has logs log) → LimitAsked (M.ask (own.runs log h).last) log.«end»

@@ -8,16 +8,10 @@ use Rattle.history.specs.declared.log.End.TheVariants as log_end
 use Rattle.bsan_ids.specs.declared.numbers.AllocNo.{AllocNo}
 use Rattle.bsan_ids.specs.declared.numbers.ThreadNo.{ThreadNo}
 use Rattle.history.specs.declared.entry.Request.{Request}
-use Rattle.history.specs.declared.entry.Request.TheVariants as request
 use Rattle.history.specs.declared.entry.Plain.TheVariants as plain
 use Rattle.history.specs.Objects.{clean}
-use Rattle.runs.specs.Parts.{child_of}
-use Rattle.runs.specs.Interleaving.{Allowed}
-
--- the entry is one of these
-abbrev pub Has : List Entry → Entry → Type 0
-Has [] x = ⊥
-Has (e ∷ es) x = (e ≡ x) ⊎ Has es x
+use Rattle.runs.specs.Parts.{Has, child_of}
+use Rattle.runs.specs.Interleaving.{Allowed, ByRequest}
 
 -- the stamps rise, and are above n
 abbrev pub RisesFrom : ℕ → List Entry → Type 0
@@ -30,15 +24,11 @@ SpawnedBefore entries t e = (s : Entry) × Has entries s × (child_of s ≡ Some
 
 -- an entry among all entries
 abbrev pub StandsAmong : Allowed → (ℕ → End) → List Entry → Entry → Request → Type 0
-StandsAmong A ends entries e (request.Make size place) = (a : AllocNo) × (e.alloc ≡ Some a) × (0 < a.0) × (a.0 ≤ A.allocs)
-StandsAmong A ends entries e (request.Print v) = e.reply ≡ clean plain.Done None
-StandsAmong A ends entries e (request.Host n x y) =
-    (v : ℕ) × A.host n x y v × (e.reply ≡ clean (plain.Value v) None)
-StandsAmong A ends entries e (request.Spawn f) =
-    (c : ThreadNo) × (0 < c.0) × (c.0 ≤ 1023) × ((s : Entry) → Has entries s → child_of s ≡ Some c.0 → s.stamp.0 ≡ e.stamp.0) × (e.reply ≡ clean (plain.Spawned c) None)
-StandsAmong A ends entries e (request.Join c) =
-    (v : ℕ) × (p : Option Prov) × SpawnedBefore entries c.0 e × ((x : Entry) → Has entries x → x.thread.0 ≡ c.0 → x.stamp.0 < e.stamp.0) × (ends c.0 ≡ log_end.Returned v p) × (e.reply ≡ clean (plain.Value v) p)
-StandsAmong A ends entries e _ = (a : AllocNo) × (e.alloc ≡ Some a)
+StandsAmong A ends entries e =
+    ByRequest A e ((a : AllocNo) × (e.alloc ≡ Some a) × (0 < a.0) × (a.0 ≤ A.allocs))
+    ((c : ThreadNo) × (0 < c.0) × (c.0 ≤ 1023) × ((s : Entry) → Has entries s → child_of s ≡ Some c.0 → s.stamp.0 ≡ e.stamp.0) × (e.reply ≡ clean (plain.Spawned c) None))
+    (λ c. ((v : ℕ) × (p : Option Prov) × SpawnedBefore entries c.0 e × ((x : Entry) → Has entries x → x.thread.0 ≡ c.0 → x.stamp.0 < e.stamp.0) × (ends c.0 ≡ log_end.Returned v p) × (e.reply ≡ clean (plain.Value v) p)))
+    ((a : AllocNo) × (e.alloc ≡ Some a))
 
 -- children start before their entries, once, and their entries are before each join of them
 pub record IsTied (A : Allowed) (ends : ℕ → End) (entries : List Entry) : Type 0 where

@@ -8,14 +8,13 @@ use Rattle.history.specs.declared.log.End.{End}
 use Rattle.bsan_ids.specs.declared.numbers.Limits.{Limits}
 use Rattle.history.specs.declared.log.ThreadLog.{ThreadLog}
 use Rattle.history.specs.declared.record.RunRecord.{RunRecord}
-use Rattle.runs.specs.Parts.{of_thread, of_alloc}
+use Rattle.runs.specs.Parts.{Has, of_thread, of_alloc}
 use Rattle.runs.specs.Machine.{Machine, Memory}
 use Rattle.runs.specs.Interleaving.{first_world, Allowed, Interleaves, Legal}
 use Rattle.runs.specs.Order.{InOrder, RunsToEnd}
-use Rattle.runs.specs.Stamps.{Has}
 use Rattle.runs.specs.Merge.{merged, MayMerge}
 use Rattle.runs.specs.ReplayLaw.{MakesAlone}
-use Rattle.runs.specs.Right.{HasLog, NumbersRiseFrom, HasThreads, HasRuns, HasHistories, MergesToRun, IsRight}
+use Rattle.runs.specs.Right.{NumbersRiseFrom, HasThreads, HasRuns, HasHistories, MergesToRun, IsRight}
 use Rattle.runs.specs.Tree.{HasStampOrder, IsEntryRight, numbers_of, WeighAlike, IsWholeRun}
 
 -- whatever the threads and the memory are: if the entries' restriction to each thread is a run of that thread from its first
@@ -35,7 +34,7 @@ pub record HasPromises (M : Machine) (O : Memory) (A : Allowed) (limits : Limits
   pub histories : HasHistories O limits logs allocs
   pub order : HasStampOrder logs
   pub merges : MayMerge logs
-  pub entries : (log : ThreadLog) (e : Entry) → HasLog logs log → Has log.entries e → IsEntryRight A e e.request
+  pub entries : (log : ThreadLog) (e : Entry) → Has logs log → Has log.entries e → IsEntryRight A e e.request
   pub stamps : (e : Entry) → Has (merged logs) e → e.stamp.0 ≤ length (merged logs)
   pub within : length (merged logs) ≤ limits.steps
   pub unslotted : (a : ℕ) → ((0 < a) × (a ≤ limits.allocs)) ⊎ Legal O (O.unmade a) (of_alloc a (merged logs))

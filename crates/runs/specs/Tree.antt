@@ -17,36 +17,32 @@ use Rattle.history.specs.declared.log.End.{End}
 use Rattle.history.specs.declared.log.End.TheVariants as log_end
 use Rattle.history.specs.declared.log.ThreadLog.{ThreadLog}
 use Rattle.history.specs.Objects.{clean}
-use Rattle.runs.specs.Parts.{child_of, of_alloc}
+use Rattle.runs.specs.Parts.{Has, child_of, of_alloc}
 use Rattle.runs.specs.Machine.{Machine, Memory}
-use Rattle.runs.specs.Interleaving.{Allowed, Legal}
+use Rattle.runs.specs.Interleaving.{Allowed, ByRequest, Legal}
+use Rattle.runs.specs.Merge.{all_entries}
 use Rattle.runs.specs.Threads.{IsThreadRun}
-use Rattle.runs.specs.Stamps.{Has, RisesFrom}
-use Rattle.runs.specs.Right.{HasLog, beyond_of, alloc_limit_of, thread_limit_of, alloc_numbers, thread_numbers, asks_make, asks_spawn, StandsAsking, AtLeast, counting_from, AllocsRiseFrom, history_of}
+use Rattle.runs.specs.Stamps.{RisesFrom}
+use Rattle.runs.specs.Right.{beyond_of, alloc_limit_of, thread_limit_of, alloc_numbers, thread_numbers, asks_make, asks_spawn, StandsAsking, AtLeast, counting_from, AllocsRiseFrom, history_of}
 
 -- a child's stamps are above its Spawn entry's, and below each join's, as is the Spawn entry's
 pub record HasStampOrder (logs : List ThreadLog) : Type 0 where
-  pub after_spawn : (a b : ThreadLog) (s x : Entry) → HasLog logs a → HasLog logs b → Has a.entries s → Has b.entries x
+  pub after_spawn : (a b : ThreadLog) (s x : Entry) → Has logs a → Has logs b → Has a.entries s → Has b.entries x
       → child_of s ≡ Some b.number.0 → s.stamp.0 < x.stamp.0
-  pub before_join : (a b : ThreadLog) (j x : Entry) → HasLog logs a → HasLog logs b → Has a.entries j → Has b.entries x
+  pub before_join : (a b : ThreadLog) (j x : Entry) → Has logs a → Has logs b → Has a.entries j → Has b.entries x
       → j.request ≡ request.Join b.number → x.stamp.0 < j.stamp.0
-  pub spawned_before_join : (a b : ThreadLog) (s j : Entry) (c : ThreadNo) → HasLog logs a → HasLog logs b → Has a.entries s → Has b.entries j
+  pub spawned_before_join : (a b : ThreadLog) (s j : Entry) (c : ThreadNo) → Has logs a → Has logs b → Has a.entries s → Has b.entries j
       → child_of s ≡ Some c.0 → j.request ≡ request.Join c → s.stamp.0 < j.stamp.0
 
 -- what an entry says besides, by itself
 abbrev pub IsEntryRight : Allowed → Entry → Request → Type 0
-IsEntryRight A e (request.Make size place) = (a : AllocNo) × (e.alloc ≡ Some a) × (0 < a.0) × (a.0 ≤ A.allocs)
-IsEntryRight A e (request.Print v) = e.reply ≡ clean plain.Done None
-IsEntryRight A e (request.Host n x y) = (v : ℕ) × A.host n x y v × (e.reply ≡ clean (plain.Value v) None)
-IsEntryRight A e (request.Spawn f) =
-    (c : ThreadNo) × (0 < c.0) × (c.0 ≤ 1023) × (e.reply ≡ clean (plain.Spawned c) None)
-IsEntryRight A e (request.Join c) = (0 < c.0) × (e.reply.verdict ≡ verdict.Clean)
-IsEntryRight A e _ = (a : AllocNo) × (e.alloc ≡ Some a)
+IsEntryRight A e =
+    ByRequest A e ((a : AllocNo) × (e.alloc ≡ Some a) × (0 < a.0) × (a.0 ≤ A.allocs))
+    ((c : ThreadNo) × (0 < c.0) × (c.0 ≤ 1023) × (e.reply ≡ clean (plain.Spawned c) None))
+    (λ c. ((0 < c.0) × (e.reply.verdict ≡ verdict.Clean)))
+    ((a : AllocNo) × (e.alloc ≡ Some a))
 
 -- lists of logs ------------------------------------------------------------------
-
-abbrev pub all_entries : List ThreadLog → List Entry
-all_entries logs = flat_map (λ log. log.entries) logs
 
 abbrev pub numbers_of : List ThreadLog → List ℕ
 numbers_of logs = map (λ log. log.number.0) logs
@@ -73,24 +69,24 @@ EndAbove n other = Unit {0}
 
 -- all stamps that these threads drew are above n, and rise along each log
 abbrev pub AreAbove : ℕ → List ThreadLog → Type 0
-AreAbove n logs = (log : ThreadLog) → HasLog logs log → RisesFrom n log.entries × EndAbove n log.«end»
+AreAbove n logs = (log : ThreadLog) → Has logs log → RisesFrom n log.entries × EndAbove n log.«end»
 
 -- the stamps of all their entries are below n
 abbrev pub AreBelow : ℕ → List ThreadLog → Type 0
-AreBelow n logs = (log : ThreadLog) (e : Entry) → HasLog logs log → Has log.entries e → e.stamp.0 < n
+AreBelow n logs = (log : ThreadLog) (e : Entry) → Has logs log → Has log.entries e → e.stamp.0 < n
 
 -- what is said of a log by others --------------------------------------------------
 
 -- of these logs, those of a thread and of all threads below it: whom one of them starts is one of them
 pub record IsFamily (logs : List ThreadLog) (first : ThreadLog) (family : List ThreadLog) : Type 0 where
-  pub own : HasLog family first
-  pub among : (log : ThreadLog) → HasLog family log → HasLog logs log
-  pub closed : (log : ThreadLog) (e : Entry) (c : ℕ) → HasLog family log → Has log.entries e → child_of e ≡ Some c → (child : ThreadLog) × HasLog family child × (child.number.0 ≡ c)
+  pub own : Has family first
+  pub among : (log : ThreadLog) → Has family log → Has logs log
+  pub closed : (log : ThreadLog) (e : Entry) (c : ℕ) → Has family log → Has log.entries e → child_of e ≡ Some c → (child : ThreadLog) × Has family child × (child.number.0 ≡ c)
 
 -- the thread was started by an entry of its parent, whose number is smaller; what it and all below it drew is later
 pub record IsStarted (logs : List ThreadLog) (log : ThreadLog) : Type 0 where
   pub parent : ThreadLog
-  pub there : HasLog logs parent
+  pub there : Has logs parent
   pub names_parent : log.parent ≡ Some parent.number
   pub above : parent.number.0 < log.number.0
   pub spawn : Entry
@@ -120,7 +116,7 @@ pub record IsJoined (logs : List ThreadLog) (entries : List Entry) (e : Entry) (
 -- the thread c is there, and hasn't returned
 pub record HasStopped (logs : List ThreadLog) (c : ThreadNo) : Type 0 where
   pub child : ThreadLog
-  pub there : HasLog logs child
+  pub there : Has logs child
   pub number : child.number ≡ c
   pub other : (v : ℕ) (p : Option Prov) → child.«end» ≢ log_end.Returned v p
 
@@ -146,7 +142,7 @@ first_numbers (p ∷ ps) = p.0 ∷ first_numbers ps
 
 -- the logs are runs; and so many of them ended while they asked Make, or Spawn, as there are numbers above a limit and numbers drawn in vain
 pub record AreRuns (M : Machine) (limits : Limits) (starts : ℕ → M.State) (logs : List ThreadLog) (idle_allocs idle_threads : List ℕ) : Type 0 where
-  pub each : (log : ThreadLog) → HasLog logs log → IsThreadRun M limits starts log
+  pub each : (log : ThreadLog) → Has logs log → IsThreadRun M limits starts log
   pub made : AtLeast (StandsAsking M asks_make limits starts) (length (flat_map (λ log. alloc_limit_of log.«end») logs) + length idle_allocs) logs
   pub spawned : AtLeast (StandsAsking M asks_spawn limits starts) (length (flat_map (λ log. thread_limit_of log.«end») logs) + length idle_threads) logs
 
@@ -161,11 +157,11 @@ pub record IsTree (M : Machine) (O : Memory) (A : Allowed) (limits : Limits) (nu
   pub own_parent : own.parent ≡ parent
   pub own_function : own.entry_function ≡ function
   pub later : AreAbove seen logs
-  pub steps : (log : ThreadLog) (e : Entry) → HasLog logs log → Has log.entries e → IsStepRight O A limits e
-  pub started : (log : ThreadLog) → HasLog below log → IsStarted logs log
+  pub steps : (log : ThreadLog) (e : Entry) → Has logs log → Has log.entries e → IsStepRight O A limits e
+  pub started : (log : ThreadLog) → Has below log → IsStarted logs log
   pub children : WeighAlike (flat_map children_of logs) (numbers_of below)
-  pub joined : (log : ThreadLog) (e : Entry) (c : ThreadNo) → HasLog logs log → Has log.entries e → e.request ≡ request.Join c → IsJoined logs log.entries e c
-  pub ended : (log : ThreadLog) (c : ThreadNo) → HasLog logs log → log.«end» ≡ log_end.ChildEnded c → HasStopped logs c
+  pub joined : (log : ThreadLog) (e : Entry) (c : ThreadNo) → Has logs log → Has log.entries e → e.request ≡ request.Join c → IsJoined logs log.entries e c
+  pub ended : (log : ThreadLog) (c : ThreadNo) → Has logs log → log.«end» ≡ log_end.ChildEnded c → HasStopped logs c
   pub firsts : Firsts M.State
   pub firsts_below : WeighAlike (first_numbers firsts) (numbers_of below)
   pub runs : (starts : ℕ → M.State) → starts number.0 ≡ first → Agrees starts firsts → AreRuns M limits starts logs idle_allocs idle_threads

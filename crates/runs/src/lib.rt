@@ -3,16 +3,8 @@
 #![tactic(auto)]
 
 ghost use Rattle.runs.specs.Objects.{objects};
-ghost use Rattle.runs.specs.OneMerge.{OneMerge, OneRestriction};
 ghost use Rattle.runs.specs.ReplayLaw.{MakesAlone};
 ghost use Rattle.runs.specs.Theorem.{WeightsTellNumbers};
-
-/// The merge that runs speak of is the one by which a record is reported, and so are its parts on a
-/// thread and on an allocation.
-pub fn one_merge()
-    ensures merge { OneMerge }
-    ensures parts { OneRestriction }
-{}
 
 /// An allocation is made by a Make alone, which answers its number, and starts no thread.
 pub fn makes_alone()

@@ -5,11 +5,12 @@ use Rattle.std.proofs.lemmas.List.Elements.{All-append, All-cons, All-drop, All-
 use Rattle.std.proofs.lemmas.List.{length-replicate}
 use Rattle.bsan_ids.specs.declared.numbers.Frag.{Frag}
 use Rattle.bsan_ids.specs.declared.numbers.Prov.{Prov}
-use Rattle.history.specs.Fragments.{fragments_from, stored, same_prov, is_run, loaded}
+use Rattle.history.specs.Pieces.{fragments_from}
+use Rattle.history.specs.Fragments.{stored, same_prov, is_run, loaded}
 use Rattle.history.specs.Memory.{put, in_range}
 use Rattle.range_map.specs.Ranges.{Ranges, overwrite}
 use Rattle.shadow_mem.specs.declared.Origin.{Origin}
-use Rattle.shadow_mem.specs.Origins.{index_at, frag_at, frags_from, is_small, IsShadow, with_middle, is_at}
+use Rattle.shadow_mem.specs.Origins.{index_at, frag_at, frags_from, is_small, IsShadow, is_at}
 
 pub length-frags_from : (at : ℕ) (xs : List (Option Origin)) → length (frags_from at xs) ≡ length xs
 length-frags_from at [] = refl
@@ -47,43 +48,46 @@ slice_get-frags_from at (suc k) (first ∷ xs) x e =
     let place : at + suc k ≡ at + 1 + k = omega arith in
     rw place (slice_get-frags_from (at + 1) k xs x e)
 
--- what a write of one origin leaves
-pub frags_from-overwrite : (from n end : ℕ) (v : Option Origin) (xs : List (Option Origin)) → end ≡ from + n → end ≤ length xs → frags_from 0 (overwrite from end v xs) ≡ with_middle from end (frags_from from (replicate n v)) (frags_from 0 xs)
-frags_from-overwrite from n end v xs e within =
+-- what a write leaves
+frags_from-put : (from : ℕ) (new xs : List (Option Origin)) → from + length new ≤ length xs → frags_from 0 (put from new xs) ≡ put from (frags_from from new) (frags_from 0 xs)
+frags_from-put from new xs within =
     let front : List (Option Origin) = take from xs in
-    let middle : List (Option Origin) = replicate n v in
+    let end : ℕ = from + length new in
     let back : List (Option Origin) = drop end xs in
-    let count : end - from ≡ n = omega arith in
-    let la : 0 + length (take from xs) ≡ from = omega (arith, length-take from xs, e, within) in
-    let lb : length (replicate n v) ≡ n = length-replicate n v in
-    let lab : 0 + length (take from xs ++ replicate n v) ≡ 0 + end = omega (arith, length-append (take from xs) (replicate n v), la, lb, e) in
-    ap (λ (k : ℕ). frags_from 0 (front ++ replicate k v ++ back)) count
-    ∙ frags_from-append 0 (front ++ middle) back
-    ∙ ap (λ (k : ℕ). frags_from 0 (front ++ middle) ++ frags_from k back) lab
-    ∙ ap (λ (ys : List (Option Frag)). ys ++ frags_from (0 + end) back) (frags_from-append 0 front middle ∙ ap (λ (k : ℕ). frags_from 0 front ++ frags_from k middle) la ∙ ap (λ (ys : List (Option Frag)). ys ++ frags_from from middle) (frags_from-take from 0 xs))
-    ∙ ap (λ (ys : List (Option Frag)). take from (frags_from 0 xs) ++ frags_from from middle ++ ys) (frags_from-drop end 0 xs)
+    let la : 0 + length (take from xs) ≡ from = omega (arith, length-take from xs, within) in
+    let lab : 0 + length (take from xs ++ new) ≡ 0 + (from + length new) = omega (arith, length-append (take from xs) new, la) in
+    let long : from + length new ≡ from + length (frags_from from new) = ap (λ (k : ℕ). from + k) (sym (length-frags_from from new)) in
+    frags_from-append 0 (front ++ new) back
+    ∙ ap (λ (k : ℕ). frags_from 0 (front ++ new) ++ frags_from k back) lab
+    ∙ ap (λ (ys : List (Option Frag)). ys ++ frags_from (0 + end) back) (frags_from-append 0 front new ∙ ap (λ (k : ℕ). frags_from 0 front ++ frags_from k new) la ∙ ap (λ (ys : List (Option Frag)). ys ++ frags_from from new) (frags_from-take from 0 xs))
+    ∙ ap (λ (ys : List (Option Frag)). take from (frags_from 0 xs) ++ frags_from from new ++ ys) (frags_from-drop end 0 xs ∙ ap (λ (k : ℕ). drop k (frags_from 0 xs)) long)
 
-length-with_middle : (from n end : ℕ) (new xs : List (Option Frag)) → end ≡ from + n → end ≤ length xs → length new ≡ n → length (with_middle from end new xs) ≡ length xs
-length-with_middle from n end new xs e within long =
-    omega (arith, length-append (take from xs ++ new) (drop end xs), length-append (take from xs) new, length-take from xs, length-drop end xs, long)
+frags_from-overwrite : (from n end : ℕ) (v : Option Origin) (xs : List (Option Origin)) → end ≡ from + n → end ≤ length xs → frags_from 0 (overwrite from end v xs) ≡ put from (frags_from from (replicate n v)) (frags_from 0 xs)
+frags_from-overwrite from n end v xs e within =
+    let count : end - from ≡ n = omega arith in
+    ap (λ (k : ℕ). frags_from 0 (put from (replicate k v) xs)) count ∙ frags_from-put from (replicate n v) xs (omega (arith, length-replicate n v, e, within))
+
+length-put : (from : ℕ) (new xs : List (Option Frag)) → from + length new ≤ length xs → length (put from new xs) ≡ length xs
+length-put from new xs within =
+    omega (arith, length-append (take from xs ++ new) (drop (from + length new) xs), length-append (take from xs) new, length-take from xs, length-drop (from + length new) xs)
 
 -- a shadow after a write of one origin
 pub IsShadow-set : (from n end : ℕ) (v : Option Origin) (old new : Ranges (Option Origin)) → end ≡ from + n → end ≤ length old.bytes → new.bytes ≡ overwrite from end v old.bytes → All is_small (frags_from from (replicate n v)) → IsShadow old → IsShadow new
 IsShadow-set from n end v old new e within bytes small h =
     let F : List (Option Frag) = frags_from 0 old.bytes in
     let M : List (Option Frag) = frags_from from (replicate n v) in
-    let frags : frags_from 0 new.bytes ≡ with_middle from end M F = ap (frags_from 0) bytes ∙ frags_from-overwrite from n end v old.bytes e within in
+    let frags : frags_from 0 new.bytes ≡ put from M F = ap (frags_from 0) bytes ∙ frags_from-overwrite from n end v old.bytes e within in
     let lf : length F ≡ length old.bytes = length-frags_from 0 old.bytes in
     let lm : length M ≡ n = length-frags_from from (replicate n v) ∙ length-replicate n v in
     let ln : length (frags_from 0 new.bytes) ≡ length new.bytes = length-frags_from 0 new.bytes in
-    let same : length (with_middle from end M F) ≡ length F = length-with_middle from n end M F e (omega arith) lm in
+    let same : length (put from M F) ≡ length F = length-put from M F (omega (arith, lm, lf, e, within)) in
     let long : length (frags_from 0 new.bytes) ≡ length F = ap length frags ∙ same in
     record {
-      small = rw frags (All-append is_small (take from F ++ M) (drop end F) (All-append is_small (take from F) M (All-take is_small from F h.small) small) (All-drop is_small end F h.small));
+      small = rw frags (All-append is_small (take from F ++ M) (drop (from + length M) F) (All-append is_small (take from F) M (All-take is_small from F h.small) small) (All-drop is_small (from + length M) F h.small));
       short = omega (arith, h.short, lf, ln, long);
     }
 
-pub frags-set : (from n end : ℕ) (v : Option Origin) (old new : Ranges (Option Origin)) → end ≡ from + n → end ≤ length old.bytes → new.bytes ≡ overwrite from end v old.bytes → frags_from 0 new.bytes ≡ with_middle from end (frags_from from (replicate n v)) (frags_from 0 old.bytes)
+pub frags-set : (from n end : ℕ) (v : Option Origin) (old new : Ranges (Option Origin)) → end ≡ from + n → end ≤ length old.bytes → new.bytes ≡ overwrite from end v old.bytes → frags_from 0 new.bytes ≡ put from (frags_from from (replicate n v)) (frags_from 0 old.bytes)
 frags-set from n end v old new e within bytes = ap (frags_from 0) bytes ∙ frags_from-overwrite from n end v old.bytes e within
 
 pub small-none : (n from : ℕ) → All is_small (frags_from from (replicate n None))
@@ -118,18 +122,16 @@ pub small-stored : (at : ℕ) (prov : Prov) → at < 4294967296 → All is_small
 small-stored at prov below =
     subst (λ (fs : List (Option Frag)). All is_small fs) (sym (stored_frags at prov below)) (small-fragments prov 0 8 (omega arith))
 
-pub stored-put : (at : ℕ) (prov : Prov) (xs : List (Option Frag)) → at < 4294967296 → with_middle at (at + 8) (frags_from at (replicate 8 (Some (record { prov = prov; zero_at = at })))) xs ≡ put at (stored (Some prov)) xs
-stored-put at prov xs below = ap (λ (new : List (Option Frag)). with_middle at (at + 8) new xs) (stored_frags at prov below)
+pub stored-put : (at : ℕ) (prov : Prov) (xs : List (Option Frag)) → at < 4294967296 → put at (frags_from at (replicate 8 (Some (record { prov = prov; zero_at = at })))) xs ≡ put at (stored (Some prov)) xs
+stored-put at prov xs below = ap (λ (new : List (Option Frag)). put at new xs) (stored_frags at prov below)
 
-pub cleared-put : (at n : ℕ) (xs : List (Option Frag)) → with_middle at (at + n) (frags_from at (replicate n None)) xs ≡ put at (replicate n None) xs
-cleared-put at n xs =
-    let long : length (replicate {A = Option Frag} n None) ≡ n = length-replicate n None in
-    ap (λ (new : List (Option Frag)). with_middle at (at + n) new xs) (frags_from-none n at) ∙ ap (λ (k : ℕ). take at xs ++ replicate n None ++ drop (at + k) xs) (sym long)
+pub cleared-put : (at n : ℕ) (xs : List (Option Frag)) → put at (frags_from at (replicate n None)) xs ≡ put at (replicate n None) xs
+cleared-put at n xs = ap (λ (new : List (Option Frag)). put at new xs) (frags_from-none n at)
 
 pub size-set : (from n end : ℕ) (v : Option Origin) (old new : Ranges (Option Origin)) → end ≡ from + n → end ≤ length old.bytes → new.bytes ≡ overwrite from end v old.bytes → length (frags_from 0 new.bytes) ≡ length (frags_from 0 old.bytes)
 size-set from n end v old new e within bytes =
     ap length (frags-set from n end v old new e within bytes)
-    ∙ length-with_middle from n end (frags_from from (replicate n v)) (frags_from 0 old.bytes) e (omega (arith, length-frags_from 0 old.bytes)) (length-frags_from from (replicate n v) ∙ length-replicate n v)
+    ∙ length-put from (frags_from from (replicate n v)) (frags_from 0 old.bytes) (omega (arith, length-frags_from 0 old.bytes, length-frags_from from (replicate n v), length-replicate n v, e, within))
 
 pub IsShadow-new : (n : ℕ) (map : Ranges (Option Origin)) → map.bytes ≡ replicate n None → n < 4294967296 → IsShadow map
 IsShadow-new n map e le =

@@ -1,7 +1,7 @@
 -- The fragments for which a map of origins stands.
 use Rattle.bsan_ids.specs.declared.numbers.Prov.{Prov}
 use Rattle.history.specs.Fragments.{same_prov}
-use Rattle.std.specs.Prelude.{Bool, false, ◌&&◌, ◌==◌, ℕ, ◌+◌, ◌-◌, ◌%◌, ◌<◌, Option, Some, None, List, [], ◌∷◌, ◌++◌, take, drop, All, length}
+use Rattle.std.specs.Prelude.{Bool, false, ◌&&◌, ◌==◌, ℕ, ◌+◌, ◌-◌, ◌%◌, ◌<◌, Option, Some, None, List, [], ◌∷◌, All, length}
 use Rattle.bsan_ids.specs.declared.numbers.Frag.{Frag}
 use Rattle.range_map.specs.Ranges.{Ranges}
 use Rattle.shadow_mem.specs.declared.Origin.{Origin}
@@ -30,10 +30,6 @@ is_small (Some frag) = frag.index < 256
 pub record IsShadow (map : Ranges (Option Origin)) : Type 0 where
   pub small : All is_small (frags_from 0 map.bytes)
   pub short : length map.bytes < 4294967296
-
--- the list with other items from a place on
-abbrev pub with_middle : ℕ → ℕ → List (Option Frag) → List (Option Frag) → List (Option Frag)
-with_middle from end new xs = take from xs ++ new ++ drop end xs
 
 -- whether this is one fragment of a provenance
 abbrev pub is_at : Prov → ℕ → Option Frag → Bool

@@ -1,12 +1,12 @@
 //! The fragments of stored pointers, one for each byte of an allocation, kept as runs.
 #![tactic(auto)]
 
-ghost use Rattle.std.specs.Prelude.{[], ◌∷◌, ◌≡◌, ◌+◌, ◌<◌, ◌≤◌, ◌^◌, None, Some, length, replicate, slice_get, All, IfOk, OnOk};
+ghost use Rattle.std.specs.Prelude.{[], ◌∷◌, ◌≡◌, ◌+◌, ◌<◌, ◌≤◌, ◌^◌, None, Some, length, replicate, slice_get, All, IfOk, IsOk, OnOk, OnErr};
 ghost use Rattle.history.specs.Memory.{in_range, put};
 ghost use Rattle.history.specs.Fragments.{is_run, loaded, stored};
-ghost use Rattle.shadow_mem.specs.Origins.{is_at, is_small, frags_from, with_middle};
+ghost use Rattle.shadow_mem.specs.Origins.{is_at, is_small, frags_from};
 
-use bsan_ids::{Frag, NoMemory, Prov, Span};
+use bsan_ids::{Copied, Frag, NoMemory, Prov, Span};
 use range_map::RangeMap;
 use std::alloc::Global;
 use std::marker::Model;
@@ -47,6 +47,10 @@ fn is_fragment(frag: Option<Frag>, prov: Prov, index: u8) -> bool
 
 impl ShadowMem {
     /// `size` bytes, at least one, without a fragment.
+    ///
+    /// # Errors
+    ///
+    /// `NoMemory`: out of memory.
     pub fn new(alloc: Global, size: u32) -> Result<ShadowMem, NoMemory>
         requires { 1 ≤ size }
         ensures { IfOk result (λ s. s.frags ≡ replicate size None) }
@@ -71,7 +75,8 @@ impl ShadowMem {
         }
     }
 
-    // Whether so many bytes have the fragments of one provenance, from an index on.
+    // Whether so many bytes have the fragments of one provenance, from an index on. It is a recursion as
+    // `is_run` is, with the place and the index as numbers, since the proof of an `all` over them stays open.
     fn runs_on(&self, prov: Prov, at: u32, index: u8, left: u8) -> bool
         requires within { at + left ≤ length self.now.frags }
         requires few { index + left ≤ 8 }
@@ -105,11 +110,17 @@ impl ShadowMem {
         }
     }
 
-    /// Makes room for `runs` more runs. The fragments stay, without memory too.
+    /// Makes room for `runs` more runs, where there isn't as much yet.
+    ///
+    /// # Errors
+    ///
+    /// `NoMemory`: out of memory, where there was less room. The shadow is as before.
     pub fn reserve(&mut self, runs: u32) -> Result<(), NoMemory>
         ensures room { OnOk result (runs ≤ self.new.spare) }
+        ensures succeeds { runs ≤ self.old.spare → IsOk result }
         ensures frags { self.new.frags ≡ self.old.frags }
         ensures spare { self.old.spare ≤ self.new.spare }
+        ensures err { OnErr result (self.new ≡ self.old) }
     {
         self.map.reserve(runs)
     }
@@ -120,7 +131,7 @@ impl ShadowMem {
         requires within { span.start + span.len ≤ length self.old.frags }
         requires room { 2 ≤ self.old.spare }
         requires small { All is_small (frags_from span.start (replicate span.len origin)) }
-        ensures frags { self.new.frags ≡ with_middle span.start (span.start + span.len) (frags_from span.start (replicate span.len origin)) self.old.frags }
+        ensures frags { self.new.frags ≡ put span.start (frags_from span.start (replicate span.len origin)) self.old.frags }
         ensures size { length self.new.frags ≡ length self.old.frags }
         ensures spare { self.old.spare ≤ self.new.spare + 2 }
     {
@@ -177,6 +188,14 @@ impl ShadowMem {
     }
 }
 
+impl Copied for ShadowMem {
+    fn copy(&self) -> Result<ShadowMem, NoMemory> {
+        Ok(ShadowMem {
+            map: self.map.copy()?,
+        })
+    }
+}
+
 #[cfg(test)]
 mod tests {
     use super::*;
@@ -189,6 +208,9 @@ mod tests {
             tag: Tag(tag),
         }
     }
+
+    /// Asks that a value may be used by several threads and may move to another one.
+    fn ask_shared<T: Send + Sync>(_: &T) {}
 
     #[test]
     fn stores_overwrites_and_copies_pointers(rt: HostRuntime) -> Result<(), Fail> {
@@ -218,6 +240,9 @@ mod tests {
         shadow.clear(Span { start: 19, len: 1 });
         assert_eq!(rt; shadow.load_ptr(12), None);
         assert_eq!(rt; shadow.load_ptr(0), Some(first));
+        let copy = shadow.copy()?;
+        assert_eq!(rt; copy.load_ptr(0), Some(first));
+        ask_shared(&copy);
         Ok(())
     }
 }

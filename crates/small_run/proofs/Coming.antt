@@ -13,7 +13,7 @@ use Rattle.history.specs.declared.entry.Entry.{Entry}
 use Rattle.history.specs.declared.entry.Plain.{Plain}
 use Rattle.history.specs.declared.entry.Plain.TheVariants as plain
 use Rattle.history.specs.declared.entry.Reply.{Reply}
-use Rattle.history.specs.Objects.{Object, unmade, answer, retag_answer, prov_of}
+use Rattle.history.specs.Objects.{Object, unmade, answer, retag_answer, prov_of, reborrow}
 use Rattle.history.specs.Objects as Objects
 use Rattle.bsan_ids.specs.declared.numbers.Stamp.{Stamp}
 use Rattle.perm_table.specs.declared.Guard.{Guard}
@@ -41,7 +41,7 @@ use Rattle.source_sem.specs.Env.{Env, value_in, with_value, operand, put_some, a
 use Rattle.thread_parts.specs.Parts.{Part, Gives, Steps, Retags, Makes, Accesses, Loads, Stores, part_ask, make_part, make_by}
 use Rattle.thread_parts.specs.Owned.{Made}
 use Rattle.source_sem.specs.Source.{Source, Frame, source, op_part, source_ask, source_turn, source_answer, source_fits, source_site, source_begins, source_start, source_child, part_turn, part_answer, frames_answer, counted, advance}
-use Rattle.small_run.specs.Right.{setting, main_start}
+use Rattle.small_run.specs.Right.{setting, start}
 use Rattle.small_run.specs.Threads.{owning, standing, leaving, ended, ComesTo, made_at}
 use Rattle.small_run.specs.Steps.{entry_behind, object_behind}
 use Rattle.small_run.proofs.Given.{load_fits, store_fits, free_fits, retag_fits, make_fits, replay_number}
@@ -49,7 +49,7 @@ use Rattle.std.proofs.lemmas.Bool.Decides.{nat_tests}
 use Rattle.std.proofs.Math.Nat.{mod-eq_of_lt}
 
 pub comes_turn : (program : Program) (es : List Entry) (s : Source) → ComesTo program es s → source_ask (setting program) s ≡ ask.Turn → s.count < 10000000 → ComesTo program es (source_turn (setting program) s)
-comes_turn program es s h asks below starts = feeds_turn (source (setting program)) 10000000 starts (main_start program) s es (h starts) asks (λ b. below)
+comes_turn program es s h asks below starts = feeds_turn (source (setting program)) 10000000 starts (start program) s es (h starts) asks (λ b. below)
 
 pub comes_entry : (program : Program) (es : List Entry) (s : Source) (e : Entry) → ComesTo program es s → s.count < 10000000
     → source_site s ≡ e.site → Answers (source_ask (setting program) s) e → source_fits (setting program) s e → child_of e ≡ None
@@ -57,7 +57,7 @@ pub comes_entry : (program : Program) (es : List Entry) (s : Source) (e : Entry)
 comes_entry program es s e h below site asks fits none starts =
     let M : Machine = source (setting program) in
     let child : StartsAs M starts (child_of e) (source_child (setting program) s) = rw none tt in
-    feeds_entry M 10000000 starts (main_start program) s es e (h starts) (λ b. below) site asks fits child
+    feeds_entry M 10000000 starts (start program) s es e (h starts) (λ b. below) site asks fits child
 
 -- a local instruction ------------------------------------------------------------
 
@@ -134,7 +134,7 @@ store_asks e p w number off word named asked high low is small =
 
 pub retag_clear : (o : Object) (off size : ℕ) (kind : RetagKind) (guard : Guard) (prov : Option Prov) (s : Stamp) → trap_of (answer o (request.Retag off size kind guard prov) s).reply.plain ≡ None
 retag_clear o off size kind guard prov s = by o.made where
-  by : (made : Option Objects.Made) → trap_of (retag_answer o made (request.Retag off size kind guard prov) s.0).reply.plain ≡ None
+  by : (made : Option Objects.Made) → trap_of (retag_answer o made (reborrow off size kind guard prov) s.0).reply.plain ≡ None
   by None = refl
   by (Some m) = refl
 

@@ -1,6 +1,8 @@
 -- From main's first state to the record.
-use Rattle.std.proofs.Common.{◌≡◌, ℕ, ◌<◌, true, List, [], ◌∷◌, Some, None, refl, sym, ap, ◌∙◌, subst, arith, length}
-use Rattle.std.specs.Prelude.{Ok, Err, IfOk, OnOk, slice_get}
+use Rattle.std.proofs.Common.{◌≡◌, ℕ, ◌<◌, Bool, true, false, List, [], ◌∷◌, Some, None, refl, sym, ap, ◌∙◌, subst, arith, length}
+use Rattle.std.specs.Prelude.{Ok, Err, IfOk, OnOk, slice_get, codes, if◌then◌else◌}
+use Rattle.std.specs.Str.{bytes_eq}
+use Rattle.std.specs.Cmp.Lexicographic.{bytes_decides}
 use Rattle.std.specs.declared.result.Result.{Result}
 use Rattle.bsan_ids.specs.declared.numbers.NoMemory.{NoMemory}
 use Rattle.history.specs.declared.ask.MachineEnd.TheVariants as end
@@ -15,17 +17,21 @@ use Rattle.ir_ast.specs.declared.program.Program.{Program}
 use Rattle.ir_ast.specs.declared.types.Ty.{Ty}
 use Rattle.ir_ast.specs.declared.types.Ty.TheVariants.{Int, Ptr}
 use Rattle.ir_ast.specs.declared.types.Width.TheVariants.{W8, W16, W32, W64}
+use Rattle.ir_ast.specs.Numbers.{function_place}
 use Rattle.report.specs.Report.{IsReportable}
+use Rattle.runs.specs.Objects.{objects}
+use Rattle.runs.specs.Right.{IsRight}
+use Rattle.source_sem.specs.Records.{no_hosts, IsRightFor}
 use Rattle.history.specs.declared.log.End.TheVariants as log_end
 use Rattle.history.specs.declared.record.RunRecord.{RunRecord}
 use Rattle.source_sem.specs.Env.{arg_of, bind}
 use Rattle.thread_parts.specs.Owned.{nothing_owned}
-use Rattle.source_sem.specs.Source.{Source, first_insts, first_term, entering, to_retag}
+use Rattle.source_sem.specs.Source.{Source, source, source_start, first_insts, first_term, entering, to_retag}
 use Rattle.small_run.specs.declared.run.Outcome.{Outcome}
 use Rattle.small_run.specs.declared.steps.Halt.TheVariants as halt
 use Rattle.small_run.specs.declared.thread.Thread.{Thread}
-use Rattle.small_run.specs.Small.{is_word_value, returns_word}
-use Rattle.small_run.specs.Right.{main_start, IsRightFor}
+use Rattle.small_run.specs.Small.{is_word_value, returns_word, AreSmallFunctions, IsSmall}
+use Rattle.small_run.specs.Right.{start, setting, no_host, default_limits}
 use Rattle.small_run.specs.Threads.{nowhere, standing, ended, ComesTo}
 use Rattle.small_run.specs.Goes.{EndsSo}
 use Rattle.small_run.specs.Runs.{IsReturn, GivesWord, HasMadeAll, HasRunBlock, Leaves, HasReturned, IsRecordOf}
@@ -42,9 +48,9 @@ from_parts ps bs = record {
   started = [];
 }
 
-start_is : (version : ℕ) (fs : List Function) (n : ℕ) (f : Function) (b : Block) → fs ≡ f ∷ [] → f.params ≡ [] → f.blocks ≡ b ∷ [] → main_start (record { version = version; functions = fs; «end» = n }) ≡ standing b.term.jump b.insts 0 [] []
+start_is : (version : ℕ) (fs : List Function) (n : ℕ) (f : Function) (b : Block) → fs ≡ f ∷ [] → f.params ≡ [] → f.blocks ≡ b ∷ [] → start (record { version = version; functions = fs; «end» = n }) ≡ standing b.term.jump b.insts 0 [] []
 start_is version fs n f b one params blocks =
-    let first : main_start (record { version = version; functions = fs; «end» = n }) ≡ from_parts f.params f.blocks = ap (λ (gs : List Function). main_start (record { version = version; functions = gs; «end» = n })) one in
+    let first : start (record { version = version; functions = fs; «end» = n }) ≡ from_parts f.params f.blocks = ap (λ (gs : List Function). start (record { version = version; functions = gs; «end» = n })) one in
     first ∙ ap (λ (ps : List Param). from_parts ps f.blocks) params ∙ ap (from_parts []) blocks
 
 pub starts_at : (program : Program) (f : Function) (b : Block) → program.functions ≡ f ∷ [] → f.params ≡ [] → f.blocks ≡ b ∷ [] → ComesTo program [] (standing b.term.jump b.insts 0 [] [])
@@ -101,9 +107,20 @@ has_run : (program : Program) (b : Block) (t : Thread) (o : Outcome) (kept : Run
     → HasRun program t.steps.entries kept.allocs o.site o.«end»
 has_run program b t o kept start run is = record { kept = is.logs; ends = run.ends program start; steps = run.entries; numbers = omega (arith, is.made, run.made) }
 
-pub small_is_right : (program : Program) (b : Block) (t : Thread) (o : Outcome) (kept : RunRecord) → ComesTo program [] (standing b.term.jump b.insts 0 [] []) → HasRunBlock b t o → IsRecordOf t.steps o kept → IsRightFor program kept
-small_is_right program b t o kept start run is =
-    subst (IsRightFor program) (sym is.is) (run_is_right program t.steps.entries kept.allocs o.site o.«end» (has_run program b t o kept start run is))
+-- main is function 0
+main_first : (fs : List Function) → AreSmallFunctions fs → function_place fs (codes "main") ≡ 0
+main_first [] h = absurd h
+main_first (f ∷ []) h = by_name (bytes_eq f.name.name (codes "main")) ((bytes_decides f.name.name (codes "main")).1 h.name)
+  where
+    by_name : (b : Bool) → b ≡ true → (if b then 0 else 1) ≡ 0
+    by_name true is = refl
+    by_name false is = cc
+main_first (f ∷ g ∷ fs) h = absurd h
+
+pub small_is_right : (program : Program) → IsSmall program → (b : Block) (t : Thread) (o : Outcome) (kept : RunRecord) → ComesTo program [] (standing b.term.jump b.insts 0 [] []) → HasRunBlock b t o → IsRecordOf t.steps o kept → IsRightFor program [] no_hosts default_limits kept
+small_is_right program small b t o kept begins run is =
+    subst (λ m. IsRight (source (setting program)) objects no_host default_limits m (source_start (setting program) m []) kept) (sym (main_first program.functions small))
+    (subst (IsRight (source (setting program)) objects no_host default_limits 0 (start program)) (sym is.is) (run_is_right program t.steps.entries kept.allocs o.site o.«end» (has_run program b t o kept begins run is)))
 
 pub small_is_reportable : (program : Program) (b : Block) (t : Thread) (o : Outcome) (kept : RunRecord) → ComesTo program [] (standing b.term.jump b.insts 0 [] []) → HasRunBlock b t o → IsRecordOf t.steps o kept → IsReportable kept
 small_is_reportable program b t o kept start run is =

@@ -16,7 +16,7 @@ use Rattle.history.specs.declared.entry.Reply.{Reply}
 use Rattle.history.specs.declared.entry.Request.{Request}
 use Rattle.history.specs.declared.entry.Request.TheVariants as request
 use Rattle.history.specs.Memory.{Memory, trap_in}
-use Rattle.history.specs.Objects.{Object, Made, answer, data_answer, data_unless, plain_reply, retag_answer, retag_judged, end_answer, is_clean, prov_of}
+use Rattle.history.specs.Objects.{Object, Made, answer, data_answer, data_unless, plain_reply, retag_answer, retag_judged, end_answer, is_clean, prov_of, Reborrow, reborrow}
 use Rattle.history.specs.Histories.{replay, is_make}
 use Rattle.ir_ast.specs.declared.types.Ty.TheVariants.{Int}
 use Rattle.ir_ast.specs.declared.types.Width.TheVariants.{W64}
@@ -42,13 +42,13 @@ data_number o (Some m) r = by (trap_in m.memory r) where
   by None = refl
   by (Some t) = refl
 
-retag_number : (o : Object) (made : Option Made) (r : Request) (s : ℕ) → (retag_answer o made r s).object.number ≡ o.number
+retag_number : (o : Object) (made : Option Made) (r : Reborrow) (s : ℕ) → (retag_answer o made r s).object.number ≡ o.number
 retag_number o None r s = refl
 retag_number o (Some m) r s = refl
 
 answer_number : (o : Object) (r : Request) (s : Stamp) → (answer o r s).object.number ≡ o.number
 answer_number o (request.Make size place) s = refl
-answer_number o (request.Retag at len kind guard prov) s = retag_number o o.made (request.Retag at len kind guard prov) s.0
+answer_number o (request.Retag at len kind guard prov) s = retag_number o o.made (reborrow at len kind guard prov) s.0
 answer_number o (request.EndProtector tag) s = by o.made where
   by : (made : Option Made) → (end_answer o made tag).object.number ≡ o.number
   by None = refl
@@ -80,7 +80,7 @@ data_names : (o : Object) (made : Option Made) (r : Request) → ((m : Made) →
 data_names o None r done = record { allocs = refl; threads = refl }
 data_names o (Some m) r done = data_cases NamesNothing o m r (λ t is. record { allocs = refl; threads = refl }) (done m)
 
-retag_names : (o : Object) (made : Option Made) (r : Request) (s : ℕ) → NamesNothing (retag_answer o made r s).reply.plain
+retag_names : (o : Object) (made : Option Made) (r : Reborrow) (s : ℕ) → NamesNothing (retag_answer o made r s).reply.plain
 retag_names o None r s = record { allocs = refl; threads = refl }
 retag_names o (Some m) r s = record { allocs = refl; threads = refl }
 
@@ -89,7 +89,7 @@ nothing a t = record { allocs = a; threads = t }
 
 pub answer_names : (o : Object) (r : Request) (s : Stamp) → is_make r ≡ false → NamesNothing (answer o r s).reply.plain
 answer_names o (request.Make size place) s other = absurd (cc)
-answer_names o (request.Retag at len kind guard prov) s other = retag_names o o.made (request.Retag at len kind guard prov) s.0
+answer_names o (request.Retag at len kind guard prov) s other = retag_names o o.made (reborrow at len kind guard prov) s.0
 answer_names o (request.EndProtector tag) s other = by o.made where
   by : (made : Option Made) → NamesNothing (end_answer o made tag).reply.plain
   by None = nothing refl refl
@@ -131,7 +131,7 @@ data_traps o (Some m) r done t is = by (trap_in m.memory r) refl is where
 pub answer_traps : (o : Object) (r : Request) (s : Stamp) (t : Trap) → trap_of (answer o r s).reply.plain ≡ Some t → DrewNone t
 answer_traps o (request.Make size place) s t is = absurd (cc)
 answer_traps o (request.Retag at len kind guard prov) s t is = absurd (by o.made is) where
-  by : (made : Option Made) → trap_of (retag_answer o made (request.Retag at len kind guard prov) s.0).reply.plain ≡ Some t → ⊥
+  by : (made : Option Made) → trap_of (retag_answer o made (reborrow at len kind guard prov) s.0).reply.plain ≡ Some t → ⊥
   by None here = cc
   by (Some m) here = cc
 answer_traps o (request.EndProtector tag) s t is = absurd (by o.made is) where
@@ -182,10 +182,10 @@ retagged_at e false a x named carried = tt
 pub retag_fits : (o : Object) (e : Entry) (a : AllocNo) (at len : ℕ) (kind : RetagKind) (guard : Guard) (prov : Option Prov) → o.number ≡ a.0 → e.alloc ≡ Some a
     → e.reply ≡ (answer o (request.Retag at len kind guard prov) e.stamp).reply → RetaggedAt e e.reply.plain
 retag_fits o e a at len kind guard prov number named is = by o.made (is) where
-  by : (made : Option Made) → e.reply ≡ (retag_answer o made (request.Retag at len kind guard prov) e.stamp.0).reply → RetaggedAt e e.reply.plain
+  by : (made : Option Made) → e.reply ≡ (retag_answer o made (reborrow at len kind guard prov) e.stamp.0).reply → RetaggedAt e e.reply.plain
   by None here = subst (RetaggedAt e) (sym (ap (λ (x : Reply). x.plain) here)) tt
   by (Some m) here =
-      let j = retag_judged o.number m (request.Retag at len kind guard prov) e.stamp.0 in
+      let j = retag_judged o.number m (reborrow at len kind guard prov) e.stamp.0 in
       let prov_is : e.reply.carried ≡ (if is_clean j.verdict then Some (prov_of o.number e.stamp.0) else prov) = ap (λ (x : Reply). x.carried) here in
       let C : ℕ → Type 0 = λ n. e.reply.carried ≡ (if is_clean j.verdict then Some (prov_of n e.stamp.0) else prov) in
       subst (RetaggedAt e) (sym (ap (λ (x : Reply). x.plain) here)) (retagged_at e (is_clean j.verdict) a prov named (subst C number prov_is))

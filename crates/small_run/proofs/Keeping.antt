@@ -26,9 +26,8 @@ use Rattle.history.specs.declared.ask.Arg.{Arg}
 use Rattle.history.specs.Replies.{trap_of}
 use Rattle.small_run.specs.declared.steps.Halt.{Halt}
 use Rattle.small_run.specs.declared.steps.Halt.TheVariants as halt
-use Rattle.report.specs.Violation.{has_deed}
-use Rattle.runs.specs.Parts.{names, of_alloc}
-use Rattle.runs.specs.Stamps.{Has}
+use Rattle.report.specs.Violation.{is_operation}
+use Rattle.runs.specs.Parts.{Has, names, of_alloc}
 use Rattle.runs.specs.Interleaving.{Legal, MakesUnmade}
 use Rattle.runs.specs.Objects.{objects}
 use Rattle.runs.specs.Right.{Numbered, made_by, spawned_by_reply, counting_from}
@@ -170,9 +169,9 @@ count_more p es e n h = omega (arith, h, count_push p es e)
 
 -- the two kinds of step -----------------------------------------------------------
 
-deed_of : (e : Entry) → histories.is_make e.request ≡ false → IsTrue (fits e.request) → IsTrue (has_deed e.request)
+deed_of : (e : Entry) → histories.is_make e.request ≡ false → IsTrue (fits e.request) → IsTrue (is_operation e.request)
 deed_of e other fitting = by e.request other fitting where
-  by : (r : Request) → histories.is_make r ≡ false → IsTrue (fits r) → IsTrue (has_deed r)
+  by : (r : Request) → histories.is_make r ≡ false → IsTrue (fits r) → IsTrue (is_operation r)
   by (request.Make size place) o f = absurd (cc)
   by (request.Load at ty prov) o f = refl
   by (request.Store at ty value carried prov) o f = refl

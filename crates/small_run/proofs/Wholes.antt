@@ -26,21 +26,21 @@ use Rattle.history.specs.declared.log.End.{End}
 use Rattle.history.specs.declared.log.End.TheVariants as log_end
 use Rattle.history.specs.declared.log.ThreadLog.{ThreadLog}
 use Rattle.history.specs.Records.{violates}
-use Rattle.runs.specs.Parts.{of_thread, of_alloc, names, child_of, spawned_by}
-use Rattle.runs.specs.Stamps.{Has, RisesFrom}
-use Rattle.runs.specs.Merge.{merged, merged_with, IsOwn, MayMerge, no_logs, one_more, IsMerge}
+use Rattle.runs.specs.Parts.{Has, of_thread, of_alloc, names, child_of, spawned_by}
+use Rattle.runs.specs.Stamps.{RisesFrom}
+use Rattle.runs.specs.Merge.{merged, IsOwn, MayMerge, no_logs, one_more, IsPartwiseMerge}
 use Rattle.runs.specs.Interleaving.{Legal}
 use Rattle.runs.specs.Objects.{objects}
-use Rattle.runs.specs.Right.{HasLog, IsReached, is_main, HasThreads, HasRuns, HasHistories, HasCounts, Numbered, AllocsRiseFrom, history_of, counting_from, made_by, spawned_by_reply, alloc_limit_of, thread_limit_of, alloc_numbers, thread_numbers, beyond, beyond_of}
+use Rattle.runs.specs.Right.{IsRight, IsReached, is_main, HasThreads, HasRuns, HasHistories, HasCounts, Numbered, AllocsRiseFrom, history_of, counting_from, made_by, spawned_by_reply, alloc_limit_of, thread_limit_of, alloc_numbers, thread_numbers, beyond, beyond_of}
 use Rattle.runs.specs.Threads.{IsThreadRun}
 use Rattle.runs.specs.Tree.{IsEntryRight}
 use Rattle.runs.specs.Theorem.{HasPromises}
 use Rattle.runs.proofs.Assembly.{promises_make_one_run}
-use Rattle.runs.proofs.MergeLaws.{merged_is_merge}
+use Rattle.runs.proofs.MergeLaws.{merged_with, merged_is_merge}
 use Rattle.runs.proofs.Differing.{rises_differ, both_differ, in_part, has_either, one_stamp, named_one}
 use Rattle.runs.proofs.Merges.{restrictions_swap, alloc_rises}
 use Rattle.source_sem.specs.Source.{source}
-use Rattle.small_run.specs.Right.{setting, default_limits, no_host, main_start, IsRightFor}
+use Rattle.small_run.specs.Right.{setting, default_limits, no_host, start}
 use Rattle.small_run.specs.Threads.{ended}
 use Rattle.small_run.specs.Steps.{IsOwnEntry, IsPart, ArePartsFrom, AreKept}
 use Rattle.small_run.specs.Goes.{EndsSo}
@@ -260,17 +260,17 @@ pub record HasRun (program : Program) (es : List Entry) (allocs : List AllocLog)
   pub steps : length es ≤ 1000000
   pub numbers : length allocs ≤ 65536
 
-only : (l log : ThreadLog) → HasLog (l ∷ []) log → l ≡ log
+only : (l log : ThreadLog) → Has (l ∷ []) log → l ≡ log
 only l log (inl is) = is
 only l log (inr other) = absurd other
 
 own_of : (program : Program) (es : List Entry) (allocs : List AllocLog) (site : ℕ) (e : End) → HasRun program es allocs site e
-    → (log : ThreadLog) (x : Entry) → HasLog (main_log es site e ∷ []) log → Has log.entries x → IsOwnEntry (length allocs) x
+    → (log : ThreadLog) (x : Entry) → Has (main_log es site e ∷ []) log → Has log.entries x → IsOwnEntry (length allocs) x
 own_of program es allocs site e run log x at has =
     run.kept.own x (subst (λ (l : ThreadLog). Has l.entries x) (sym (only (main_log es site e) log at)) has)
 
 thread_run : (program : Program) (es : List Entry) (allocs : List AllocLog) (site : ℕ) (e : End) → HasRun program es allocs site e
-    → IsThreadRun (source (setting program)) default_limits (λ t. main_start program) (main_log es site e)
+    → IsThreadRun (source (setting program)) default_limits (λ t. start program) (main_log es site e)
 thread_run program es allocs site e run = by e run.ends where
   own : All (λ (x : Entry). x.thread ≡ record { 0 = 0 }) es
   own = All_from_has (λ (x : Entry). x.thread ≡ record { 0 = 0 }) es (λ x at. ap (λ (n : ℕ). let t : ThreadNo = record { 0 = n } in t) (run.kept.own x at).thread)
@@ -278,11 +278,11 @@ thread_run program es allocs site e run = by e run.ends where
   rises : RisesFrom 0 es
   rises = numbered_rises 0 es run.kept.numbered
 
-  by : (f : End) → EndsSo program es site f → IsThreadRun (source (setting program)) default_limits (λ t. main_start program) (main_log es site f)
+  by : (f : End) → EndsSo program es site f → IsThreadRun (source (setting program)) default_limits (λ t. start program) (main_log es site f)
   by (log_end.Returned v p) h =
-      record { last = ended (end.Returned v p) site; own = own; rises = rises; feeds = h (λ t. main_start program); «end» = (refl, λ b. absurd (cc)); count = refl; site = refl }
+      record { last = ended (end.Returned v p) site; own = own; rises = rises; feeds = h (λ t. start program); «end» = (refl, λ b. absurd (cc)); count = refl; site = refl }
   by (log_end.Trapped t) h =
-      record { last = ended (end.Trapped t) site; own = own; rises = rises; feeds = h.0 (λ u. main_start program); «end» = (inl refl, λ b. absurd (cc)); count = refl; site = refl }
+      record { last = ended (end.Trapped t) site; own = own; rises = rises; feeds = h.0 (λ u. start program); «end» = (inl refl, λ b. absurd (cc)); count = refl; site = refl }
   by (log_end.StepLimit s) h = absurd h
   by log_end.TurnLimit h = absurd h
   by log_end.NoMemory h = absurd h
@@ -303,20 +303,20 @@ has_threads program es allocs site e run =
     }
 
 has_runs : (program : Program) (es : List Entry) (allocs : List AllocLog) (site : ℕ) (e : End) → HasRun program es allocs site e
-    → HasRuns (source (setting program)) default_limits (main_start program) (main_log es site e ∷ [])
+    → HasRuns (source (setting program)) default_limits (start program) (main_log es site e ∷ [])
 has_runs program es allocs site e run =
     let main : ThreadLog = main_log es site e in
     record {
-      starts = λ t. main_start program;
+      starts = λ t. start program;
       first = refl;
       reached = λ log at. subst (λ (l : ThreadLog). IsReached (main ∷ []) l.number.0) (only main log at) is_main;
-      runs = λ log at. subst (λ (l : ThreadLog). IsThreadRun (source (setting program)) default_limits (λ t. main_start program) l) (only main log at) (thread_run program es allocs site e run);
+      runs = λ log at. subst (λ (l : ThreadLog). IsThreadRun (source (setting program)) default_limits (λ t. start program) l) (only main log at) (thread_run program es allocs site e run);
       joined = λ log x c at has is. absurd (no_join x c (own_of program es allocs site e run log x at has).fitting is);
       ended = λ log c at is. absurd (no_child_ended program es site e c run.ends (ap (λ (l : ThreadLog). l.«end») (only main log at) ∙ is));
     }
 
 has_histories : (program : Program) (es : List Entry) (allocs : List AllocLog) (site : ℕ) (e : End) → HasRun program es allocs site e
-    → IsMerge (main_log es site e ∷ []) es → HasHistories objects default_limits (main_log es site e ∷ []) allocs
+    → IsPartwiseMerge (main_log es site e ∷ []) es → HasHistories objects default_limits (main_log es site e ∷ []) allocs
 has_histories program es allocs site e run merge = record {
   rise = logs_rise 1 0 65536 es allocs run.kept.parts (omega arith) (omega (arith, run.numbers));
   stamps = λ a. subst (λ (xs : List Entry). RisesFrom 0 xs) (sym (history_is es allocs a run.kept)) (alloc_rises a 0 es merge.rises);
@@ -326,8 +326,8 @@ has_histories program es allocs site e run merge = record {
 }
 
 has_promises : (program : Program) (es : List Entry) (allocs : List AllocLog) (site : ℕ) (e : End) → HasRun program es allocs site e → MayMerge (main_log es site e ∷ [])
-    → IsMerge (main_log es site e ∷ []) es → merged (main_log es site e ∷ []) ≡ es
-    → HasPromises (source (setting program)) objects no_host default_limits 0 (main_start program) (main_log es site e ∷ []) allocs
+    → IsPartwiseMerge (main_log es site e ∷ []) es → merged (main_log es site e ∷ []) ≡ es
+    → HasPromises (source (setting program)) objects no_host default_limits 0 (start program) (main_log es site e ∷ []) allocs
 has_promises program es allocs site e run may merge same =
     let main : ThreadLog = main_log es site e in
     let size : length (merged (main ∷ [])) ≡ length es = ap (length {A = Entry}) same in
@@ -377,7 +377,7 @@ ends_draw_none program es site (log_end.ChildEnded c) h = absurd h
 
 has_counts : (program : Program) (es : List Entry) (allocs : List AllocLog) (site : ℕ) (e : End) (words : Counters) → (run : HasRun program es allocs site e)
     → merged (main_log es site e ∷ []) ≡ es → words ≡ record { stamps = length es; allocs = length allocs; threads = 0 }
-    → HasCounts (source (setting program)) default_limits (λ t. main_start program) (main_log es site e ∷ []) words
+    → HasCounts (source (setting program)) default_limits (λ t. start program) (main_log es site e ∷ []) words
 has_counts program es allocs site e words run same are =
     let main : ThreadLog = main_log es site e in
     let none = ends_draw_none program es site e run.ends in
@@ -406,7 +406,8 @@ has_counts program es allocs site e words run same are =
       spawned_differ = subst (IsDistinct nat_eq) (sym started) none_differ;
     }
 
-pub run_is_right : (program : Program) (es : List Entry) (allocs : List AllocLog) (site : ℕ) (e : End) → HasRun program es allocs site e → IsRightFor program (record_of es allocs site e)
+pub run_is_right : (program : Program) (es : List Entry) (allocs : List AllocLog) (site : ℕ) (e : End) → HasRun program es allocs site e 
+    → IsRight (source (setting program)) objects no_host default_limits 0 (start program) (record_of es allocs site e)
 unfolding has_runs
 run_is_right program es allocs site e run =
     let main : ThreadLog = main_log es site e in
@@ -414,12 +415,12 @@ run_is_right program es allocs site e run =
     let same : merged (main ∷ []) ≡ es = merged_alone 0 es rises in
     let may : MayMerge (main ∷ []) = one_more (own_from_has es (λ x at. (run.kept.own x at).thread)) rises (λ x y at there. absurd there) no_logs in
     let threads = has_threads program es allocs site e run in
-    let merge : IsMerge (main ∷ []) es = subst (λ (xs : List Entry). IsMerge (main ∷ []) xs) same (merged_is_merge (main ∷ []) threads.rise may) in
+    let merge : IsPartwiseMerge (main ∷ []) es = subst (λ (xs : List Entry). IsPartwiseMerge (main ∷ []) xs) same (merged_is_merge (main ∷ []) threads.rise may) in
     let runs = has_runs program es allocs site e run in
     record {
       threads = threads;
       runs = runs;
-      run = promises_make_one_run (source (setting program)) objects no_host default_limits 0 (main_start program) (main ∷ []) allocs (has_promises program es allocs site e run may merge same);
+      run = promises_make_one_run (source (setting program)) objects no_host default_limits 0 (start program) (main ∷ []) allocs (has_promises program es allocs site e run may merge same);
       histories = has_histories program es allocs site e run merge;
       counts = has_counts program es allocs site e (record { stamps = length es; allocs = length allocs; threads = 0 }) run same refl;
     }
@@ -431,7 +432,7 @@ described_in b n es (l ∷ ls) own h = (
   All_from_has (λ (x : Entry). IsTrue (violates x) → IsDescribable x) l.entries
       (λ x at v.
       let o = own x (in_part b es x (subst (λ (xs : List Entry). Has xs x) h.0.part at)).0 in
-      record { deed = o.deed v; alloc = subst (λ (a : Option AllocNo). IsSome a) (sym o.names) refl }),
+      record { operation = o.deed v; alloc = subst (λ (a : Option AllocNo). IsSome a) (sym o.names) refl }),
   described_in (suc b) n es ls own h.1,
 )
 

@@ -79,7 +79,7 @@ pub record Traps (dest : Option Named) (o : Op) (number : ℕ) (old new : Thread
   pub made : new.steps.made ≡ old.steps.made
   pub drew_none : DrewNone t
 
--- an instruction was made or trapped, or memory was wanting
+-- an instruction was made or trapped, or memory ran out
 abbrev pub Goes : Option Named → Op → ℕ → Thread → Thread → Result (Unit {0}) Halt → Type 0
 Goes dest o number old new (Ok done) = Advances dest o number old new
 Goes dest o number old new (Err (halt.Trapped t)) = Traps dest o number old new t

@@ -1,29 +1,24 @@
--- Which records are right for a small program: those of a run of main alone.
-use Rattle.std.specs.Prelude.{[], true}
+-- The runs of small programs: without input and without host functions, at the limits where a command names none.
+use Rattle.std.specs.Prelude.{[]}
 use Rattle.bsan_ids.specs.declared.numbers.Limits.{Limits}
 use Rattle.ir_ast.specs.declared.program.Program.{Program}
-use Rattle.history.specs.declared.record.RunRecord.{RunRecord}
 use Rattle.runs.specs.Interleaving.{Allowed}
-use Rattle.runs.specs.Objects.{objects}
-use Rattle.runs.specs.Right.{IsRight}
-use Rattle.source_sem.specs.Source.{Setting, Source, source, source_start}
-
--- the program without input and without hosts
-abbrev pub setting : Program → Setting
-setting program = record { program = program; input = []; hosts = []; tracked = true }
+use Rattle.source_sem.specs.Records.{no_hosts, allowed}
+use Rattle.source_sem.specs.Source.{Setting, Source, source_start}
+use Rattle.source_sem.specs.Starting.{setting_of}
 
 -- the limits where a command names none
 abbrev pub default_limits : Limits
 default_limits = record { steps = 1000000; turns = 10000000; allocs = 65536 }
 
--- allocation numbers up to the limit, and no host
+-- the program without input and without host functions
+abbrev pub setting : Program → Setting
+setting program = setting_of program [] no_hosts
+
+-- what its runs are allowed
 abbrev pub no_host : Allowed
-no_host = record { allocs = 65536; host = λ number first second value. ⊥ }
+no_host = allowed default_limits no_hosts
 
 -- the first state of main, which is function 0
-abbrev pub main_start : Program → Source
-main_start program = source_start (setting program) 0 []
-
--- the record is right for a run of the program's main alone, without input, at the default limits
-abbrev pub IsRightFor : Program → RunRecord → Type 0
-IsRightFor program kept = IsRight (source (setting program)) objects no_host default_limits 0 (main_start program) kept
+abbrev pub start : Program → Source
+start program = source_start (setting program) 0 []

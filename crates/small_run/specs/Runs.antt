@@ -1,4 +1,4 @@
--- What the code's thread has come to: behind instructions, at its end, and as a record.
+-- What the code's thread has come to: after instructions, at its end, and as a record.
 use Rattle.std.specs.Prelude.{◌≡◌, ℕ, ◌+◌, ◌<◌, ◌≤◌, List, [], ◌∷◌, Option, Some, None, Ok, Err, length}
 use Rattle.std.specs.declared.result.Result.{Result}
 use Rattle.history.specs.declared.ask.MachineEnd.TheVariants as end
@@ -67,7 +67,7 @@ pub record Gave (old new : Thread) : Type 0 where
   pub entries : length new.steps.entries ≤ length old.steps.entries + length old.roots.items
   pub made : new.steps.made ≡ old.steps.made
 
--- the return was done, or trapped, or memory was wanting
+-- the return was done, or trapped, or memory ran out
 abbrev pub Leaves : ℕ → Thread → Thread → Result (Unit {0}) Halt → Type 0
 Leaves site old new (Ok done) =
     ((program : Program) (v : TypedVal) (at : ℕ) → ComesTo program old.steps.entries (at_inst (jump.Ret (Some v) at) [] site old)

@@ -80,11 +80,11 @@ abbrev pub is_new : List Inst → Option Named → Bool
 is_new done None = true
 is_new done (Some r) = not (is_defined done r.name)
 
--- the instruction can stand behind these
+-- the instruction can stand after these
 abbrev pub fits_behind : List Inst → Inst → Bool
 fits_behind done i = is_form i.dest i.op && (uses_defined done i.op && is_new done i.dest)
 
--- each instruction can stand behind those before it
+-- each instruction can stand after those before it
 abbrev pub AreInOrder : List Inst → Type 0
 AreInOrder insts = (k : ℕ) (i : Inst) → slice_get insts k ≡ Some i → IsTrue (fits_behind (take k insts) i)
 
@@ -129,6 +129,6 @@ AreSmallFunctions (f ∷ []) = IsSmallMain f
 AreSmallFunctions other = ⊥
 
 -- one function main without parameters, which gives an i64, of one block without parameters: instructions of the six
--- forms, each register defined once and used behind its definition alone, and the return of a word
+-- forms, each register defined once and used after its definition alone, and the return of a word
 abbrev pub IsSmall : Program → Type 0
 IsSmall program = AreSmallFunctions program.functions

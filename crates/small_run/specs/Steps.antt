@@ -15,13 +15,12 @@ use Rattle.history.specs.Histories.{replay, fits, is_make_step}
 use Rattle.ir_ast.specs.declared.types.Place.TheVariants.{Stack}
 use Rattle.alloc_state.specs.Log.{Log}
 use Rattle.history.specs.declared.log.AllocLog.{AllocLog}
-use Rattle.report.specs.Violation.{has_deed}
+use Rattle.report.specs.Violation.{is_operation}
 use Rattle.history.specs.Records.{violates}
 use Rattle.runs.specs.Interleaving.{Legal}
 use Rattle.runs.specs.Objects.{objects}
-use Rattle.runs.specs.Parts.{of_alloc}
+use Rattle.runs.specs.Parts.{Has, of_alloc}
 use Rattle.runs.specs.Right.{Numbered, made_by, spawned_by_reply, counting_from}
-use Rattle.runs.specs.Stamps.{Has}
 use Rattle.history.specs.Replies.{trap_of}
 use Rattle.thread_parts.specs.Words.{number_in}
 use Rattle.small_run.specs.declared.steps.Halt.{Halt}
@@ -36,7 +35,7 @@ pub record Steps : Type 0 where
 abbrev pub object_behind : List Entry → ℕ → Object
 object_behind entries number = replay (unmade number) (of_alloc number entries)
 
--- what is answered to a request behind these entries, at the next stamp
+-- what is answered to a request after these entries, at the next stamp
 abbrev pub reply_behind : List Entry → AllocNo → Request → Reply
 reply_behind entries number request =
     (answer (object_behind entries number.0) request (record { 0 = length entries + 1 })).reply
@@ -68,7 +67,7 @@ Takes reply (Ok value) = IsTaken reply value
 Takes reply (Err (halt.Trapped trap)) = trap_of reply.plain ≡ Some trap
 Takes reply (Err halt.NoMemory) = ⊥
 
--- a step was made, and the thread goes on or is trapped; or memory was wanting
+-- a step was made, and the thread goes on or is trapped; or memory ran out
 abbrev pub IsStep : Steps → AllocNo → ℕ → Request → Steps → Result Arg Halt → Type 0
 IsStep old number site request new (Err halt.NoMemory) = Unit {0}
 IsStep old number site request new result =
@@ -94,7 +93,7 @@ pub record IsOwnEntry (made : ℕ) (e : Entry) : Type 0 where
   pub above : 0 < alloc.0
   pub within : alloc.0 ≤ made
   pub spawns : spawned_by_reply e.reply.plain ≡ []
-  pub deed : IsTrue (violates e) → IsTrue (has_deed e.request)
+  pub deed : IsTrue (violates e) → IsTrue (is_operation e.request)
 
 -- an allocation's log, and the log with one more entry
 abbrev pub alloc_log : Log → AllocLog

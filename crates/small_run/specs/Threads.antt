@@ -13,7 +13,7 @@ use Rattle.runs.specs.Threads.{Feeds}
 use Rattle.source_sem.specs.Env.{Env}
 use Rattle.thread_parts.specs.Owned.{Owned, Made}
 use Rattle.source_sem.specs.Source.{Source, Ready, Leaving, source}
-use Rattle.small_run.specs.Right.{setting, default_limits, main_start}
+use Rattle.small_run.specs.Right.{setting, default_limits, start}
 
 -- what a frame gives up at its return: its stack allocations, the newest first
 abbrev pub owning : List Made → Owned
@@ -54,4 +54,4 @@ ended over number = record { frames = []; over = over; last = number; count = nu
 
 -- main has come to this state by these entries, whatever the first states of other threads
 abbrev pub ComesTo : Program → List Entry → Source → Type 0
-ComesTo program entries now = (starts : ℕ → Source) → Feeds (source (setting program)) default_limits.turns starts (main_start program) entries now
+ComesTo program entries now = (starts : ℕ → Source) → Feeds (source (setting program)) default_limits.turns starts (start program) entries now

@@ -5,7 +5,7 @@ ghost use Rattle.std.specs.Str.{bytes_eq};
 ghost use Rattle.small_run.specs.Registers.{bound};
 ghost use Rattle.source_sem.specs.Env.{value_in, with_value};
 
-use bsan_ids::{Name, NoMemory};
+use bsan_ids::{Copied, Name, NoMemory};
 use history::Arg;
 use std::alloc::Global;
 use std::marker::Model;
@@ -104,7 +104,7 @@ impl Registers {
     ///
     /// # Errors
     ///
-    /// `NoMemory`: want of memory.
+    /// `NoMemory`: out of memory.
     pub fn define(&mut self, name: &Name, arg: Arg) -> Result<(), NoMemory>
         ensures { OnOk result (self.new ≡ with_value name.now arg self.old) }
     {

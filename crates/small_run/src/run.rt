@@ -3,7 +3,8 @@ ghost use Rattle.std.specs.Prelude.{◌≡◌, ◌+◌, ◌<◌, [], IfOk, OnOk,
 ghost use Rattle.report.specs.Report.{IsReportable};
 ghost use Rattle.history.specs.Records.{empty_record};
 ghost use Rattle.small_run.specs.Small.{IsSmall, IsSmallBlock, AreInOrder};
-ghost use Rattle.small_run.specs.Right.{IsRightFor};
+ghost use Rattle.source_sem.specs.Records.{no_hosts, IsRightFor};
+ghost use Rattle.small_run.specs.Right.{default_limits};
 ghost use Rattle.small_run.specs.Threads.{ComesTo, standing};
 ghost use Rattle.small_run.specs.Goes.{AreRoots};
 ghost use Rattle.small_run.specs.Runs.{IsFresh, IsReturn, HasRunInsts, HasReturned, HasRunBlock, IsRecordOf};
@@ -137,12 +138,12 @@ fn keep(
 ///
 /// # Errors
 ///
-/// `NoMemory`: want of memory, and the record is still empty.
+/// `NoMemory`: out of memory, and the record is still empty.
 pub fn run_small(alloc: Global, program: &Program, kept: &mut RunRecord) -> Result<(), NoMemory>
     requires small { IsSmall program.now }
     requires empty { kept.old ≡ empty_record }
     // The record is that of a run of main: its log, its allocations' histories, their merge and the counts.
-    ensures right { OnOk result (IsRightFor program.now kept.new) }
+    ensures right { OnOk result (IsRightFor program.now [] no_hosts default_limits kept.new) }
 
     // A report can be made of it.
     ensures reportable { OnOk result (IsReportable kept.new) }

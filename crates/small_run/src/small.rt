@@ -110,14 +110,14 @@ fn is_new(done: &[Inst], dest: &Option<Named>) -> bool
     }
 }
 
-/// Whether an instruction can stand behind these.
+/// Whether an instruction can stand after these.
 fn fits_behind(done: &[Inst], inst: &Inst) -> bool
     ensures { result ≡ spec.fits_behind done.now inst.now }
 {
     is_form(inst) && uses_defined(done, &inst.op) && is_new(done, &inst.dest)
 }
 
-/// Whether each instruction can stand behind those before it.
+/// Whether each instruction can stand after those before it.
 fn are_in_order(insts: &[Inst]) -> bool
     ensures { IsTrue result ↔ AreInOrder insts.now }
 {
@@ -197,7 +197,7 @@ fn is_small_main(function: &Function) -> bool
 /// block without parameters. Its instructions have the forms `const i64 N`, `alloca N` (8 to 65,536
 /// bytes), `load i64, %p`, `store i64 V, %p`, `retag mut %p, N` and `retag shr %p, N`, and it ends in
 /// `ret i64 V`. V is a number or a register of a `const` or `load`, `%p` a register of an `alloca` or
-/// `retag`. Each register is defined once and used behind its definition alone. There are at most
+/// `retag`. Each register is defined once and used after its definition alone. There are at most
 /// 1,024 registers and, the return among them, 65,536 instructions.
 pub fn is_small(program: &Program) -> bool
     ensures { IsTrue result ↔ IsSmall program.now }

@@ -44,7 +44,7 @@ impl From<AllocError> for Halt {
     }
 }
 
-/// What could not be stored is let go.
+/// What could not be stored is dropped.
 impl<T: Drop> From<AllocFailed<T>> for Halt {
     ghost from_gives = { λ _ halt. halt ≡ NoMemory };
 
@@ -81,7 +81,7 @@ pub(crate) struct Logs {
     pub allocs: ListOf<AllocLog>,
 }
 
-/// The stamp of the step behind these.
+/// The stamp of the step after these.
 fn next_stamp(entries: &[Entry]) -> Stamp
     requires { length entries.now < 1000000 }
     ensures { result.0 ≡ length entries.now + 1 }
@@ -158,7 +158,7 @@ impl Steps {
     ///
     /// # Errors
     ///
-    /// `NoMemory`: want of memory. No step was made.
+    /// `NoMemory`: out of memory. No step was made.
     pub fn make(&mut self, size: u32, site: u32) -> Result<Prov, NoMemory>
         requires room { length self.old.entries < 1000000 }
         requires numbers { self.old.made < 65536 }
@@ -189,7 +189,7 @@ impl Steps {
     /// # Errors
     ///
     /// - `Trapped`: the request was refused, which is logged.
-    /// - `NoMemory`: want of memory. No step was made.
+    /// - `NoMemory`: out of memory. No step was made.
     pub fn step(&mut self, number: AllocNo, site: u32, request: Request) -> Result<Arg, Halt>
         requires room { length self.old.entries < 1000000 }
         requires above { 0 < number.0 }
@@ -212,7 +212,7 @@ impl Steps {
     ///
     /// # Errors
     ///
-    /// `NoMemory`: want of memory.
+    /// `NoMemory`: out of memory.
     pub fn into_logs(self, alloc: Global) -> Result<Logs, NoMemory>
         ensures entries { IfOk result (λ logs. logs.entries ≡ self.entries) }
         ensures kept { IfOk result (λ logs. AreKept logs.entries logs.allocs) }

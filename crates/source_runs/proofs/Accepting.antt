@@ -8,7 +8,7 @@ use Rattle.std.proofs.lemmas.Bool.Decides.{leb_tells}
 use Rattle.ir_ast.specs.Tokens.{Each}
 use Rattle.ir_ast.specs.Programs.{IsProgram, CanStand}
 use Rattle.ir_ast.specs.Grammar.{val_token}
-use Rattle.ir_ast.specs.Shapes.{IsVal, IsTyped, IsGoal, IsOp, HasType as NamesType, Defines, FitsDestination, IsInst, IsJump, IsBlock, IsFunction}
+use Rattle.ir_ast.specs.Shapes.{IsVal, IsTyped, IsGoal, IsOp, FitsDestination, IsInst, IsJump, IsBlock, IsFunction}
 use Rattle.ir_ast.specs.declared.hosts.HostTable.{HostTable}
 use Rattle.ir_ast.specs.declared.program.Block.{Block}
 use Rattle.ir_ast.specs.declared.program.Function.{Function}
@@ -31,32 +31,27 @@ use Rattle.ir_rules.specs.declared.rule.Rule.{Rule}
 use Rattle.ir_rules.specs.declared.rule.Rule.TheVariants.{Unknown, Twice, TypeClash, BadTarget, BadCall, HandleUse}
 use Rattle.ir_rules.specs.declared.rule.Wanted.{Wanted}
 use Rattle.ir_rules.specs.declared.rule.Wanted.TheVariants.{AValue, AHandle}
-use Rattle.ir_rules.specs.Occurrences.{Holds, Use, Event, param_event, or_none, op_gives, op_uses, val_uses, typed_uses, goal_uses, jump_uses, jump_goals, dest_events, inst_events, block_events, function_events}
+use Rattle.ir_rules.specs.Occurrences.{Holds, Use, Event, param_event, op_gives, op_uses, val_uses, typed_uses, goal_uses, jump_uses, jump_goals, dest_events, inst_events, block_events, function_events}
 use Rattle.ir_rules.specs.Occurrences.Holds.{value, handle}
 use Rattle.ir_rules.specs.Occurrences.Event.{defines, uses}
 use Rattle.ir_rules.specs.Rules.{held, used, UseBreaks, NameBreaks, CallFits, SpawnFits, HostFits, IsHostType, GoalFits, RetBreaks, JoinBreaks, OpBreaks, IsAccepted, function_named, host_named, function_ops, param_types, arg_types}
 use Rattle.ir_rules.specs.Rules.Broken.{of_use, of_op, of_ret, of_goal, twice_register}
 use Rattle.ir_ast.specs.Words.{word_bits}
 use Rattle.ir_ast.specs.Numbers.{block_place, function_place}
+use Rattle.runs.specs.Parts.{Has}
+use Rattle.source_sem.proofs.Events.{defines_gives}
 use Rattle.source_sem.proofs.Reading.{bytes_eq_same}
+use Rattle.source_sem.specs.Joining.{IsHeld, IsWanted}
 use Rattle.source_runs.proofs.JoinNames.{hit, times, second_of}
 use Rattle.source_runs.specs.Typing.{DestHolds, OperandTyped, ArgTyped, ParamTyped, Callee, OpTyped, InstTyped, GoalTyped, JumpTyped, BlockTyped, FunctionTyped, ProgramTyped}
-use Rattle.source_runs.proofs.Every.{In, in_contains, each_from, each_left, each_right, each_map, each_all, each_both}
+use Rattle.source_runs.proofs.Every.{in_contains, each_from, each_left, each_right, each_map, each_all, each_both}
 use Rattle.source_runs.proofs.Numbers.{ValStands, OpStands, InstStands, JumpStands, BlockStands, FunctionStands, args_stand, goal_args_stand, program_stands, number_fits}
 use Rattle.source_runs.proofs.Deciding.{type_decided, option_decided, list_decided, function_found, block_found, function_names}
 
 -- events -----------------------------------------------------------------------------
 
-abbrev WantedHeld : Option Holds → Wanted → Type 0
-WantedHeld h (AValue ty) = h ≡ Some (value ty)
-WantedHeld h AHandle = (f : List ℕ) × (h ≡ Some (handle f))
-
 abbrev UseHeld : Function → Use → Type 0
-UseHeld g u = WantedHeld (held (function_events g) u.reg.name) u.wanted
-
-abbrev EventHeld : Function → Event → Type 0
-EventHeld g (defines d h) = held (function_events g) d.name ≡ Some h
-EventHeld g (uses u) = UseHeld g u
+UseHeld g u = IsHeld g (uses u)
 
 uses_defines : {B : Type 0} {u : Use} {d : Named} {h : Holds} → uses u ≡ defines d h → B
 uses_defines e = cc
@@ -73,7 +68,7 @@ same_named e = cc
 same_holds : {c d : Named} {k h : Holds} → defines c k ≡ defines d h → k ≡ h
 same_holds e = cc
 
-times_in : (d : Named) (h : Holds) (es : List Event) → In (defines d h) es → 1 ≤ times d.name es
+times_in : (d : Named) (h : Holds) (es : List Event) → Has es (defines d h) → 1 ≤ times d.name es
 times_in d h [] i = absurd i
 times_in d h (uses u ∷ es) (inl e) = uses_defines e
 times_in d h (uses u ∷ es) (inr i) = times_in d h es i
@@ -82,20 +77,20 @@ times_in d h (defines c k ∷ es) (inl e) =
     let same : bytes_eq d.name c.name ≡ true = subst (λ (z : Named). bytes_eq d.name z.name ≡ true) (sym (same_named e)) (bytes_eq_same d.name) in
     let one : hit (bytes_eq d.name c.name) ≡ 1 = ap hit same in omega (arith, one)
 
-held_in : (d : Named) (h : Holds) (es : List Event) → In (defines d h) es → times d.name es ≤ 1 → held es d.name ≡ Some h
+held_in : (d : Named) (h : Holds) (es : List Event) → Has es (defines d h) → times d.name es ≤ 1 → held es d.name ≡ Some h
 held_in d h [] i one = absurd i
 held_in d h (uses u ∷ es) (inl e) one = uses_defines e
 held_in d h (uses u ∷ es) (inr i) one = held_in d h es i one
 held_in d h (defines c k ∷ es) i one = by_test (bytes_eq d.name c.name) refl i one (held_in d h es)
   where
-    by_test : (b : Bool) → bytes_eq d.name c.name ≡ b → (defines c k ≡ defines d h) ⊎ In (defines d h) es → hit b + times d.name es ≤ 1 → (In (defines d h) es → times d.name es ≤ 1 → held es d.name ≡ Some h)
+    by_test : (b : Bool) → bytes_eq d.name c.name ≡ b → (defines c k ≡ defines d h) ⊎ Has es (defines d h) → hit b + times d.name es ≤ 1 → (Has es (defines d h) → times d.name es ≤ 1 → held es d.name ≡ Some h)
         → (if b then Some k else held es d.name) ≡ Some h
     by_test true t (inl e) less more = ap (λ z. Some z) (same_holds e)
     by_test true t (inr j) less more = let again = times_in d h es j in absurd (omega (arith, less, again))
     by_test false t (inl e) less more = absurd (true≢false (sym (subst (λ (z : Named). bytes_eq d.name z.name ≡ true) (sym (same_named e)) (bytes_eq_same d.name)) ∙ t))
     by_test false t (inr j) less more = more j (omega (arith, less))
 
-in_used : (u : Use) (es : List Event) → In (uses u) es → In u (used es)
+in_used : (u : Use) (es : List Event) → Has es (uses u) → Has (used es) u
 in_used u [] i = absurd i
 in_used u (defines d h ∷ es) (inl e) = defines_uses e
 in_used u (defines d h ∷ es) (inr i) = in_used u es i
@@ -103,34 +98,6 @@ in_used u (uses v ∷ es) (inl e) = inl (same_use e)
 in_used u (uses v ∷ es) (inr i) = inr (in_used u es i)
 
 -- operations -------------------------------------------------------------------------
-
-typed_gives : (ty : Option Ty) → NamesType ty → (h : Holds) × (or_none ty ≡ Some h)
-typed_gives None h = absurd h
-typed_gives (Some ty) h = (value ty, refl)
-
-defines_gives : (o : Op) → Defines o → (h : Holds) × (op_gives o ≡ Some h)
-defines_gives (op.Store ty v q) d = absurd d
-defines_gives (op.Copy to from n) d = absurd d
-defines_gives (op.Free q) d = absurd d
-defines_gives (op.Print w v) d = absurd d
-defines_gives (op.Call result f args) d = typed_gives result d
-defines_gives (op.Join result at h) d = typed_gives result d
-defines_gives (op.Const w n) d = (_, refl)
-defines_gives op.Null d = (_, refl)
-defines_gives (op.Make place size) d = (_, refl)
-defines_gives (op.Gep q n) d = (_, refl)
-defines_gives (op.Load ty q) d = (_, refl)
-defines_gives (op.Retag kind q size) d = (_, refl)
-defines_gives (op.Binary o w a b) d = (_, refl)
-defines_gives (op.Compare c ty a b) d = (_, refl)
-defines_gives (op.Select ty c a b) d = (_, refl)
-defines_gives (op.Cast o from to v at) d = (_, refl)
-defines_gives (op.PtrToInt q) d = (_, refl)
-defines_gives (op.Input n) d = (_, refl)
-defines_gives (op.Modify o w q v) d = (_, refl)
-defines_gives (op.CmpXchg w q e v) d = (_, refl)
-defines_gives (op.Host result h args) d = (_, refl)
-defines_gives (op.Spawn f args) d = (_, refl)
 
 named_fits : {A : Type 0} (Fits : A → Type 0) (o : Option A) (name : Named) → ((rule : Rule) (at : ℕ) → NameBreaks Fits o name rule at → ⊥) → (a : A) × (o ≡ Some a) × ((Fits a → ⊥) → ⊥)
 named_fits Fits None name kept = absurd (kept Unknown name.at refl)
@@ -156,12 +123,12 @@ module _ (g : Function) where
     args_typed vs is.1 stands.1 (each_right (UseHeld g) (typed_uses v) (flat_map typed_uses vs) us),
   )
 
-  dest_holds : (dest : Option Named) (o : Op) → FitsDestination dest o → Each (EventHeld g) (dest_events dest (op_gives o)) → DestHolds g dest (op_gives o)
-  dest_holds dest o fits events n is = by_gives (defines_gives o (subst (λ d. FitsDestination d o) is fits)) (subst (λ d. Each (EventHeld g) (dest_events d (op_gives o))) is events)
+  dest_holds : (dest : Option Named) (o : Op) → FitsDestination dest o → Each (IsHeld g) (dest_events dest (op_gives o)) → DestHolds g dest (op_gives o)
+  dest_holds dest o fits events n is = by_gives (defines_gives o (subst (λ d. FitsDestination d o) is fits)) (subst (λ d. Each (IsHeld g) (dest_events d (op_gives o))) is events)
     where
-      by_gives : ((h : Holds) × (op_gives o ≡ Some h)) → Each (EventHeld g) (dest_events (Some n) (op_gives o)) → held (function_events g) n.name ≡ op_gives o
+      by_gives : ((h : Holds) × (op_gives o ≡ Some h)) → Each (IsHeld g) (dest_events (Some n) (op_gives o)) → held (function_events g) n.name ≡ op_gives o
       by_gives gives all =
-          let some : Each (EventHeld g) (dest_events (Some n) (Some gives.0)) = subst (λ z. Each (EventHeld g) (dest_events (Some n) z)) gives.1 all in
+          let some : Each (IsHeld g) (dest_events (Some n) (Some gives.0)) = subst (λ z. Each (IsHeld g) (dest_events (Some n) z)) gives.1 all in
           some.0 ∙ sym gives.1
 
 module _ (p : Program) (hosts : HostTable) (ok : IsAccepted p hosts) (g : Function) (in_p : Contains p.functions g) where
@@ -174,7 +141,7 @@ module _ (p : Program) (hosts : HostTable) (ok : IsAccepted p hosts) (g : Functi
   use_held : (u : Use) → Contains (used (function_events g)) u → UseHeld g u
   use_held u there = by_wanted u.wanted (held (function_events g) u.reg.name) (λ rule breaks. ok rule u.reg.at (of_use g u rule in_p there breaks))
     where
-      by_wanted : (w : Wanted) (h : Option Holds) → ((rule : Rule) → UseBreaks rule h w → ⊥) → WantedHeld h w
+      by_wanted : (w : Wanted) (h : Option Holds) → ((rule : Rule) → UseBreaks rule h w → ⊥) → IsWanted h w
       by_wanted (AValue ty) None kept = absurd (kept Unknown tt)
       by_wanted (AValue ty) (Some (handle f)) kept = absurd (kept HandleUse tt)
       by_wanted (AValue ty) (Some (value t)) kept = elim (type_decided t ty) [
@@ -185,10 +152,10 @@ module _ (p : Program) (hosts : HostTable) (ok : IsAccepted p hosts) (g : Functi
       by_wanted AHandle (Some (value t)) kept = absurd (kept HandleUse tt)
       by_wanted AHandle (Some (handle f)) kept = (f, refl)
 
-  events_held : Each (EventHeld g) (function_events g)
-  events_held = each_from (EventHeld g) (function_events g) by_event
+  pub events_held : Each (IsHeld g) (function_events g)
+  events_held = each_from (IsHeld g) (function_events g) by_event
     where
-      by_event : (e : Event) → In e (function_events g) → EventHeld g e
+      by_event : (e : Event) → Has (function_events g) e → IsHeld g e
       by_event (defines d h) i = held_in d h (function_events g) i (never_twice d.name)
       by_event (uses u) i = use_held u (in_contains u (used (function_events g)) (in_used u (function_events g) i))
 
@@ -251,20 +218,20 @@ module _ (p : Program) (hosts : HostTable) (ok : IsAccepted p hosts) (g : Functi
   op_typed (op.Join result at h) is stands us kept =
       let name : List ℕ = us.0.0 in (name, us.0.1, joined (held (function_events g) h.name) name result at us.0.1 kept)
 
-  inst_typed : (i : Inst) → IsInst p.version i → InstStands i → Each (EventHeld g) (inst_events i) → OpKept i.op → InstTyped p g i
+  inst_typed : (i : Inst) → IsInst p.version i → InstStands i → Each (IsHeld g) (inst_events i) → OpKept i.op → InstTyped p g i
   inst_typed i is stands events kept =
       let front : List Event = map uses (op_uses i.op) in
       let back : List Event = dest_events i.dest (op_gives i.op) in
       record {
-        operands = op_typed i.op is.1 stands (each_map (EventHeld g) uses (op_uses i.op) (each_left (EventHeld g) front back events)) kept;
-        dest = dest_holds g i.dest i.op is.0 (each_right (EventHeld g) front back events);
+        operands = op_typed i.op is.1 stands (each_map (IsHeld g) uses (op_uses i.op) (each_left (IsHeld g) front back events)) kept;
+        dest = dest_holds g i.dest i.op is.0 (each_right (IsHeld g) front back events);
       }
 
-  insts_typed : (is : List Inst) → Each (IsInst p.version) is → Each InstStands is → Each (EventHeld g) (flat_map inst_events is) → Each OpKept (map (λ i. i.op) is) → Each (InstTyped p g) is
+  insts_typed : (is : List Inst) → Each (IsInst p.version) is → Each InstStands is → Each (IsHeld g) (flat_map inst_events is) → Each OpKept (map (λ i. i.op) is) → Each (InstTyped p g) is
   insts_typed [] shaped stands events kept = tt
   insts_typed (i ∷ is) shaped stands events kept = (
-    inst_typed i shaped.0 stands.0 (each_left (EventHeld g) (inst_events i) (flat_map inst_events is) events) kept.0,
-    insts_typed is shaped.1 stands.1 (each_right (EventHeld g) (inst_events i) (flat_map inst_events is) events) kept.1,
+    inst_typed i shaped.0 stands.0 (each_left (IsHeld g) (inst_events i) (flat_map inst_events is) events) kept.0,
+    insts_typed is shaped.1 stands.1 (each_right (IsHeld g) (inst_events i) (flat_map inst_events is) events) kept.1,
   )
 
   -- terminators ----------------------------------------------------------------------
@@ -304,33 +271,33 @@ module _ (p : Program) (hosts : HostTable) (ok : IsAccepted p hosts) (g : Functi
   blocks_kept : Each BlockKept g.blocks
   blocks_kept = each_from BlockKept g.blocks by_block
     where
-      by_block : (b : Block) → In b g.blocks → BlockKept b
+      by_block : (b : Block) → Has g.blocks b → BlockKept b
       by_block b i =
           let there = in_contains b g.blocks i in (
             each_from GoalKept (jump_goals b.term.jump) (λ goal j off. ok BadTarget goal.label.at (of_goal g b goal in_p there (in_contains goal (jump_goals b.term.jump) j) off)),
             λ at breaks. ok TypeClash at (of_ret g b at in_p there breaks),
           )
 
-  params_typed : (ps : List Param) → Each (EventHeld g) (map param_event ps) → Each (ParamTyped g) ps
-  params_typed ps events = each_map (EventHeld g) param_event ps events
+  params_typed : (ps : List Param) → Each (IsHeld g) (map param_event ps) → Each (ParamTyped g) ps
+  params_typed ps events = each_map (IsHeld g) param_event ps events
 
-  block_typed : (b : Block) → IsBlock p.version b → BlockStands b → Each (EventHeld g) (block_events b) → Each OpKept (map (λ i. i.op) b.insts) → BlockKept b → BlockTyped p g b
+  block_typed : (b : Block) → IsBlock p.version b → BlockStands b → Each (IsHeld g) (block_events b) → Each OpKept (map (λ i. i.op) b.insts) → BlockKept b → BlockTyped p g b
   block_typed b is stands events ops kept =
       let ps : List Event = map param_event b.params in
       let insts : List Event = flat_map inst_events b.insts in
       let js : List Event = map uses (jump_uses b.term.jump) in
-      let front = each_left (EventHeld g) (ps ++ insts) js events in
+      let front = each_left (IsHeld g) (ps ++ insts) js events in
       record {
-        params = params_typed b.params (each_left (EventHeld g) ps insts front);
-        insts = insts_typed b.insts is.insts stands.0 (each_right (EventHeld g) ps insts front) ops;
-        term = jump_typed b.term.jump is.term stands.1 (each_map (EventHeld g) uses (jump_uses b.term.jump) (each_right (EventHeld g) (ps ++ insts) js events)) kept.0 kept.1;
+        params = params_typed b.params (each_left (IsHeld g) ps insts front);
+        insts = insts_typed b.insts is.insts stands.0 (each_right (IsHeld g) ps insts front) ops;
+        term = jump_typed b.term.jump is.term stands.1 (each_map (IsHeld g) uses (jump_uses b.term.jump) (each_right (IsHeld g) (ps ++ insts) js events)) kept.0 kept.1;
       }
 
-  blocks_typed : (bs : List Block) → Each (IsBlock p.version) bs → Each BlockStands bs → Each (EventHeld g) (flat_map block_events bs) → Each OpKept (flat_map (λ b. map (λ i. i.op) b.insts) bs) → Each BlockKept bs → Each (BlockTyped p g) bs
+  blocks_typed : (bs : List Block) → Each (IsBlock p.version) bs → Each BlockStands bs → Each (IsHeld g) (flat_map block_events bs) → Each OpKept (flat_map (λ b. map (λ i. i.op) b.insts) bs) → Each BlockKept bs → Each (BlockTyped p g) bs
   blocks_typed [] is stands events ops kept = tt
   blocks_typed (b ∷ bs) is stands events ops kept = (
-    block_typed b is.0 stands.0 (each_left (EventHeld g) (block_events b) (flat_map block_events bs) events) (each_left OpKept (map (λ i. i.op) b.insts) _ ops) kept.0,
-    blocks_typed bs is.1 stands.1 (each_right (EventHeld g) (block_events b) (flat_map block_events bs) events) (each_right OpKept (map (λ i. i.op) b.insts) _ ops) kept.1,
+    block_typed b is.0 stands.0 (each_left (IsHeld g) (block_events b) (flat_map block_events bs) events) (each_left OpKept (map (λ i. i.op) b.insts) _ ops) kept.0,
+    blocks_typed bs is.1 stands.1 (each_right (IsHeld g) (block_events b) (flat_map block_events bs) events) (each_right OpKept (map (λ i. i.op) b.insts) _ ops) kept.1,
   )
 
   function_typed : IsFunction p.version g → FunctionStands g → FunctionTyped p g
@@ -338,9 +305,9 @@ module _ (p : Program) (hosts : HostTable) (ok : IsAccepted p hosts) (g : Functi
       let ps : List Event = map param_event g.params in
       let bs : List Event = flat_map block_events g.blocks in
       record {
-        params = params_typed g.params (each_left (EventHeld g) ps bs events_held);
+        params = params_typed g.params (each_left (IsHeld g) ps bs events_held);
         attributes = is.params;
-        blocks = blocks_typed g.blocks is.blocks stands (each_right (EventHeld g) ps bs events_held) ops_kept blocks_kept;
+        blocks = blocks_typed g.blocks is.blocks stands (each_right (IsHeld g) ps bs events_held) ops_kept blocks_kept;
       }
 
 pub program_typed : (p : Program) (hosts : HostTable) → IsProgram p → IsAccepted p hosts → ProgramTyped p

@@ -9,6 +9,7 @@ use Rattle.std.proofs.lemmas.Nat.{mod_below}
 use Rattle.bsan_ids.specs.declared.numbers.AllocNo.{AllocNo}
 use Rattle.bsan_ids.specs.declared.numbers.Tag.{Tag}
 use Rattle.bsan_ids.specs.declared.numbers.Prov.{Prov}
+use Rattle.history.specs.Histories.{HasBytes}
 use Rattle.history.specs.declared.entry.Entry.{Entry}
 use Rattle.history.specs.declared.entry.Plain.TheVariants as plain
 use Rattle.history.specs.declared.entry.Reply.{Reply}
@@ -19,7 +20,7 @@ use Rattle.history.specs.declared.trap.Trap.{Trap}
 use Rattle.history.specs.declared.trap.Trap.TheVariants as trap
 use Rattle.history.specs.Fragments.{Shadow, loaded_as}
 use Rattle.history.specs.Memory.{Memory, in_range, put, word_at, next_memory, trap_in, is_outside}
-use Rattle.history.specs.Objects.{Object, Made, clean, prov_of, plain_reply, carried_by, judged, through, step_of, data_unless, data_answer, is_clean, retag_judged, retag_answer, end_answer, answer}
+use Rattle.history.specs.Objects.{Object, Made, clean, prov_of, plain_reply, carried_by, judged, through, step_of, data_unless, data_answer, is_clean, retag_judged, retag_answer, end_answer, answer, Reborrow, reborrow}
 use Rattle.history.specs.Pieces.{Byte}
 use Rattle.ir_ast.specs.Tokens.{Each}
 use Rattle.ir_ast.specs.Words.{width_bytes, ty_bytes, word_of, bytes_of, bits, word_bits}
@@ -32,7 +33,7 @@ use Rattle.perm_table.specs.declared.RetagKind.{RetagKind}
 use Rattle.runs.proofs.PlainMemory.{HasShadow, keeps_shadow}
 use Rattle.thread_parts.specs.Words.{prov_at}
 use Rattle.thread_parts.specs.Fits.{ReplyFits}
-use Rattle.source_runs.specs.Invariant.{AreBytes, PlainFits, PieceFits}
+use Rattle.source_runs.specs.Invariant.{AreBytes, PlainFits}
 use Rattle.source_runs.specs.Allocations.{MadeFits, ObjectFits, IsOfAllocation, IsMake, AllocationLaw}
 
 abbrev IsByte : ℕ → Type 0
@@ -157,7 +158,7 @@ trap_parts false out rest h = absurd (let z : Some trap.Freed ≡ None = h in cc
 
 -- what is left ------------------------------------------------------------------------
 
-next_bytes : (m : Memory) (r : Request) → Bytes m.bytes → PieceFits r → Bytes (next_memory m r).bytes
+next_bytes : (m : Memory) (r : Request) → Bytes m.bytes → HasBytes r → Bytes (next_memory m r).bytes
 next_bytes m (request.Store at ty value carried prov) all piece = bytes_put at (bytes_of (ty_bytes ty) value) m.bytes (bytes_written (ty_bytes ty) value) all
 next_bytes m (request.Modify at width op value prov) all piece = bytes_put at (bytes_of (width_bytes width) _) m.bytes (bytes_written (width_bytes width) _) all
 next_bytes m (request.CmpXchg at width expected value prov) all piece = by_test (word_at m at (width_bytes width) == expected)
@@ -188,15 +189,15 @@ both_fit (Some m) bytes shadow = (bytes, shadow)
 abbrev Left : ℕ → Object → Type 0
 Left a o = (o.number ≡ a) × BytesFit o.made
 
-unless_left : (a : ℕ) (o : Object) (m : Made) (r : Request) (t : Option Trap) → Left a o → Bytes m.memory.bytes → PieceFits r → Left a (data_unless o m r t).object
+unless_left : (a : ℕ) (o : Object) (m : Made) (r : Request) (t : Option Trap) → Left a o → Bytes m.memory.bytes → HasBytes r → Left a (data_unless o m r t).object
 unless_left a o m r (Some t) left all piece = left
 unless_left a o m r None left all piece = (left.0, next_bytes m.memory r all piece)
 
-data_left : (a : ℕ) (o : Object) (made : Option Made) (r : Request) → Left a o → BytesFit made → PieceFits r → Left a (data_answer o made r).object
+data_left : (a : ℕ) (o : Object) (made : Option Made) (r : Request) → Left a o → BytesFit made → HasBytes r → Left a (data_answer o made r).object
 data_left a o None r left all piece = left
 data_left a o (Some m) r left all piece = unless_left a o m r (trap_in m.memory r) left all piece
 
-retag_left : (a : ℕ) (o : Object) (made : Option Made) (r : Request) (stamp : ℕ) → Left a o → BytesFit made → Left a (retag_answer o made r stamp).object
+retag_left : (a : ℕ) (o : Object) (made : Option Made) (r : Reborrow) (stamp : ℕ) → Left a o → BytesFit made → Left a (retag_answer o made r stamp).object
 retag_left a o None r stamp left all = left
 retag_left a o (Some m) r stamp left all = (left.0, all)
 
@@ -204,9 +205,9 @@ end_left : (a : ℕ) (o : Object) (made : Option Made) (tag : Tag) → Left a o 
 end_left a o None tag left all = left
 end_left a o (Some m) tag left all = (left.0, all)
 
-answer_left : (a : ℕ) (o : Object) (r : Request) (stamp : ℕ) → Left a o → PieceFits r → Left a (answer o r (record { 0 = stamp })).object
+answer_left : (a : ℕ) (o : Object) (r : Request) (stamp : ℕ) → Left a o → HasBytes r → Left a (answer o r (record { 0 = stamp })).object
 answer_left a o (request.Make size place) stamp left piece = (left.0, bytes_zero size)
-answer_left a o (request.Retag at len kind guard prov) stamp left piece = retag_left a o o.made (request.Retag at len kind guard prov) stamp left left.1
+answer_left a o (request.Retag at len kind guard prov) stamp left piece = retag_left a o o.made (reborrow at len kind guard prov) stamp left left.1
 answer_left a o (request.EndProtector tag) stamp left piece = end_left a o o.made tag left left.1
 answer_left a o (request.Load at ty prov) stamp left piece = data_left a o o.made (request.Load at ty prov) left left.1 piece
 answer_left a o (request.Store at ty value carried prov) stamp left piece = data_left a o o.made (request.Store at ty value carried prov) left left.1 piece
@@ -220,7 +221,7 @@ answer_left a o (request.Host n x y) stamp left piece = data_left a o o.made (re
 answer_left a o (request.Spawn f) stamp left piece = data_left a o o.made (request.Spawn f) left left.1 piece
 answer_left a o (request.Join c) stamp left piece = data_left a o o.made (request.Join c) left left.1 piece
 
-object_next : (a : ℕ) (o : Object) (r : Request) (stamp : ℕ) → ObjectFits a o → PieceFits r → ObjectFits a (answer o r (record { 0 = stamp })).object
+object_next : (a : ℕ) (o : Object) (r : Request) (stamp : ℕ) → ObjectFits a o → HasBytes r → ObjectFits a (answer o r (record { 0 = stamp })).object
 object_next a o r stamp fits piece =
     let left = answer_left a o r stamp (fits.number, bytes_fit o.made fits.made) piece in
     record { number = left.0; made = both_fit _ left.1 (keeps_shadow o r stamp (has_shadow o.made fits.made)) }
@@ -242,10 +243,10 @@ abbrev Suits : Option Ty → Entry → Request → Reply → Type 0
 Suits ty e r q = ReplyFits ty (record e { reply = q }) r × PlainFits q.plain
 
 module _ (ty : Option Ty) (e : Entry) (a : AllocNo) (named : e.alloc ≡ Some a) (o : Object) (fits : ObjectFits a.0 o) where
-  retag_replies : (at len : ℕ) (kind : RetagKind) (guard : Guard) (prov : Option Prov) (made : Option Made) → Suits ty e (request.Retag at len kind guard prov) (retag_answer o made (request.Retag at len kind guard prov) e.stamp.0).reply
+  retag_replies : (at len : ℕ) (kind : RetagKind) (guard : Guard) (prov : Option Prov) (made : Option Made) → Suits ty e (request.Retag at len kind guard prov) (retag_answer o made (reborrow at len kind guard prov) e.stamp.0).reply
   retag_replies at len kind guard prov None = (tt, tt)
   retag_replies at len kind guard prov (Some m) =
-      by_clean (retag_judged o.number m (request.Retag at len kind guard prov) e.stamp.0).verdict (is_clean (retag_judged o.number m (request.Retag at len kind guard prov) e.stamp.0).verdict)
+      by_clean (retag_judged o.number m (reborrow at len kind guard prov) e.stamp.0).verdict (is_clean (retag_judged o.number m (reborrow at len kind guard prov) e.stamp.0).verdict)
     where
       by_clean : (v : Verdict) (b : Bool) → Suits ty e (request.Retag at len kind guard prov) (record { plain = plain.Retagged b; carried = if b then Some (prov_of o.number e.stamp.0) else through (request.Retag at len kind guard prov); verdict = v })
       by_clean v true = ((a, named, ap (λ n. Some (prov_of n e.stamp.0)) fits.number), tt)

@@ -2,6 +2,7 @@
 use Rattle.std.proofs.Common.{◌≡◌, ℕ, zero, suc, ◌⊎◌, inl, inr, List, [], ◌∷◌, Option, Some, None, Bool, true, false, if◌then◌else◌, refl, sym, ap, ◌∙◌}
 use Rattle.std.specs.Prelude.{slice_get}
 use Rattle.std.specs.Str.{bytes_eq}
+use Rattle.std.specs.Cmp.Lexicographic.{bytes_decides}
 use Rattle.std.proofs.lemmas.Bool.{true≢false}
 use Rattle.std.proofs.lemmas.Bool.Decides.{eqb_tells}
 use Rattle.ir_ast.specs.declared.program.Block.{Block}
@@ -11,7 +12,9 @@ use Rattle.ir_ast.specs.declared.types.Ty.TheVariants.{Int, Ptr}
 use Rattle.ir_ast.specs.declared.types.Width.TheVariants.{W8, W16, W32, W64}
 use Rattle.ir_rules.specs.Rules.{function_named, block_named}
 use Rattle.ir_ast.specs.Numbers.{function_place, block_place}
-use Rattle.source_runs.proofs.JoinNames.{bytes_sym}
+
+bytes_sym : (a b : List ℕ) → bytes_eq a b ≡ true → bytes_eq b a ≡ true
+bytes_sym a b h = (bytes_decides b a).1 (sym ((bytes_decides a b).0 h))
 
 abbrev pub Decided : {A : Type 0} → A → A → Type 0
 Decided a b = (a ≡ b) ⊎ (a ≡ b → ⊥)

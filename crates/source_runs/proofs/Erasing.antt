@@ -26,7 +26,7 @@ use Rattle.runs.specs.RightErasure.{AsksAlike}
 use Rattle.runs.proofs.RightErases.{right_erases}
 use Rattle.runs.proofs.RightMerges.{right_may_merge}
 use Rattle.source_sem.specs.Starting.{setting_of, main_of, main_start}
-use Rattle.source_runs.specs.Setting.{allowed}
+use Rattle.source_sem.specs.Records.{allowed}
 use Rattle.source_runs.proofs.OwnLimits.{limits_are_asked}
 use Rattle.source_runs.specs.ErasureLaw.{EndsAlike, GoAlike, ErasureIsARun, RightRecordsErase}
 

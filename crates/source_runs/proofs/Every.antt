@@ -1,20 +1,17 @@
 -- What holds of each element of a list.
-use Rattle.std.proofs.Common.{◌≡◌, ◌⊎◌, inl, inr, List, [], ◌∷◌, ◌++◌, map, refl, sym, subst, arith}
+use Rattle.std.proofs.Common.{inl, inr, List, [], ◌∷◌, ◌++◌, map, refl, sym, subst, arith}
 use Rattle.std.specs.Prelude.{Contains}
 use Rattle.std.specs.List.{flat_map}
 use Rattle.std.proofs.lemmas.List.Elements.{Contains-append_right}
 use Rattle.ir_ast.specs.Tokens.{Each}
+use Rattle.runs.specs.Parts.{Has}
 
-abbrev pub In : {A : Type 0} → A → List A → Type 0
-In a [] = ⊥
-In a (x ∷ xs) = (x ≡ a) ⊎ In a xs
-
-pub in_contains : {A : Type 0} (a : A) (xs : List A) → In a xs → Contains xs a
+pub in_contains : {A : Type 0} (a : A) (xs : List A) → Has xs a → Contains xs a
 in_contains a [] h = absurd h
 in_contains a (x ∷ xs) (inl is) = subst (λ z. Contains (z ∷ xs) a) (sym is) (0, omega arith, refl)
 in_contains a (x ∷ xs) (inr h) = Contains-append_right (x ∷ []) xs a (in_contains a xs h)
 
-pub each_from : {A : Type 0} (P : A → Type 0) (xs : List A) → ((a : A) → In a xs → P a) → Each P xs
+pub each_from : {A : Type 0} (P : A → Type 0) (xs : List A) → ((a : A) → Has xs a → P a) → Each P xs
 each_from P [] f = tt
 each_from P (x ∷ xs) f = (f x (inl refl), each_from P xs (λ a i. f a (inr i)))
 

@@ -3,6 +3,7 @@ use Rattle.std.proofs.Common.{◌≡◌, ℕ, zero, suc, ◌*◌, ◌%◌, ◌^�
 use Rattle.std.specs.Prelude.{slice_get}
 use Rattle.std.proofs.lemmas.Bool.{true≢false}
 use Rattle.bsan_ids.specs.declared.numbers.Prov.{Prov}
+use Rattle.history.specs.Histories.{HasBytes}
 use Rattle.history.specs.declared.ask.Arg.{Arg}
 use Rattle.history.specs.declared.ask.Ask.{Ask}
 use Rattle.history.specs.declared.ask.Ask.TheVariants as ask
@@ -37,15 +38,15 @@ use Rattle.history.specs.Replies.{trap_of}
 use Rattle.thread_parts.specs.Words.{blank, number_in}
 use Rattle.ir_ast.specs.Words.{word_bits}
 use Rattle.source_sem.specs.Env.{Env, value_in, arg_of, args_of, put, put_some}
-use Rattle.thread_parts.specs.Parts.{Part, Step, Access, Gives, Fails, Steps, Retags, Copies, Calls, Joins, Makes, Accesses, Prints, Hosts, Spawns, Loads, Stores, Modifies, Compares, Frees, step_ask, step_result, access_request, step_started, part_ask, retag_ask, chosen, makes_step}
-use Rattle.thread_parts.specs.Copies.{Progress, untouched, copy_after, copy_after_by, copied_of, copy_done, copy_ask, copy_ask_by}
+use Rattle.thread_parts.specs.Parts.{Part, Step, Access, Gives, Fails, Steps, Retags, Copies, Calls, Joins, Makes, Accesses, Prints, Hosts, Spawns, Loads, Stores, Modifies, Compares, Frees, step_ask, step_result, access_request, part_ask, chosen, makes_step}
+use Rattle.thread_parts.specs.Copies.{Progress, untouched, copy_after, copy_after_by, copied_of, copy_done, copy_ask_by}
 use Rattle.thread_parts.specs.Owned.{Owned, released, release_ask, release_by, step_owned}
 use Rattle.ir_ast.specs.Numbers.{block_place}
 use Rattle.thread_parts.specs.Fits.{IsWord, ValueIn, JoinFits, MadeAt, ReplyFits}
 use Rattle.source_sem.specs.Source.{Setting, Source, Frame, Doing, Ready, Entering, Copying, Waiting, Retagging, Leaving, op_part, advance, in_block, goto_in, goto, has_step, to_retag, entering, first_insts, first_term, frame_of, new_frame, taken, taken_arg, result_step, resumed_by, resumed, return_to, returned_value, part_turn, term_turn, ready_turn, frames_turn, counted, counted_if, leave, leave_on, copy_on, joined, part_answer, term_answer, ready_answer, copying_part, copying_answer, entering_answer, doing_answer, frames_answer, source_begins, source_start, source_child, part_child, insts_child, frames_child, frames_ask, doing_ask, ready_ask, term_ask, copying_ask, copying_by, entry_ask, entering_ask, release_or, nowhere, part_type, insts_type, frames_type}
 use Rattle.source_runs.specs.Typing.{HasType, DestHolds, ParamTyped, InstTyped, GoalTyped, RetTyped, JumpTyped, BlockTyped, FunctionTyped, ProgramTyped}
 use Rattle.source_sem.specs.Starting.{ArgsFit}
-use Rattle.source_runs.specs.Invariant.{HoldsFit, EnvFits, ResultFits, AreBytes, HalfFits, Enters, DoingFits, FrameFits, Awaits, CallersFit, EndFits, FramesFit, SourceFits, PlainFits, PieceFits, RegistersFit, Told, JoinsTyped, WordLaw}
+use Rattle.source_runs.specs.Invariant.{HoldsFit, EnvFits, ResultFits, AreBytes, HalfFits, Enters, DoingFits, FrameFits, Awaits, CallersFit, EndFits, FramesFit, SourceFits, PlainFits, RegistersFit, Told, JoinsTyped, WordLaw}
 use Rattle.source_runs.proofs.Registers.{fits_plain, fits_at, fits_ptr, fits_arg, MayGive, env_put, env_dest, env_empty, env_bind, arg_fits, args_fit}
 use Rattle.source_runs.proofs.Operations.{AccessFits, Begins, StepFits, PartFits, op_fits}
 
@@ -116,7 +117,7 @@ access_given Q K h at prov p (Modifies w o v) e ty is fit none = subst (λ z. Ma
 access_given Q K h at prov p (Compares w u v) e ty is fit none = subst (λ z. MayGive Q K z (step_result (Accesses p (Compares w u v)) e.reply)) (sym is) (fits_plain (Int w) _ (value_word (Int w) e.reply e.reply.plain fit none))
 access_given Q K h at prov p Frees e ty is fit none = tt
 
-access_piece : (at : ℕ) (prov : Option Prov) (a : Access) → PieceFits (access_request at prov a)
+access_piece : (at : ℕ) (prov : Option Prov) (a : Access) → HasBytes (access_request at prov a)
 access_piece at prov (Loads u) = tt
 access_piece at prov (Stores u v) = tt
 access_piece at prov (Modifies w o v) = tt
@@ -402,12 +403,12 @@ module _ (x : Setting) (K : ℕ → ℕ → Type 0) (zero_fits : (k : ℕ) → K
   AskFits last u c (ask.Spawn k) = (g : Function) × (slice_get P.functions k ≡ Some g) × SourceFits P K g.result.ty c
   AskFits last u c (ask.Ended e) = EndFits last e
   AskFits last u c (ask.Join d) = (ty : Ty) → u ≡ Some ty → JoinsTyped P K (Some ty) d.0
-  AskFits last u c (ask.At a r) = PieceFits r
+  AskFits last u c (ask.At a r) = HasBytes r
   AskFits last u c (ask.Host n a b) = (a < 2 ^ 64) × (b < 2 ^ 64)
   AskFits last u c other = Unit {0}
 
   module _ (last : Option Ty) where
-    release_asks : (u : Option Ty) (c : Source) (cs : List ℕ) (ps : List Prov) (ms : List Rattle.thread_parts.specs.Parts.Made) (a : Ask) → u ≡ None → AskFits last u c a → AskFits last u c (release_or (release_by cs ps ms) a)
+    release_asks : (u : Option Ty) (c : Source) (cs : List ℕ) (ps : List Prov) (ms : List Rattle.thread_parts.specs.Owned.Made) (a : Ask) → u ≡ None → AskFits last u c a → AskFits last u c (release_or (release_by cs ps ms) a)
     release_asks u c (d ∷ cs) ps ms a none fits = λ ty is. some_none (sym is ∙ none)
     release_asks u c [] (p ∷ ps) ms a none fits = tt
     release_asks u c [] [] (m ∷ ms) a none fits = tt

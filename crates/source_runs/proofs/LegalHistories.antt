@@ -18,15 +18,15 @@ use Rattle.history.specs.declared.entry.Request.TheVariants as request
 use Rattle.history.specs.declared.trap.Trap.{Trap}
 use Rattle.history.specs.Histories.{fits, Replies, is_make}
 use Rattle.history.specs.Memory.{trap_in}
-use Rattle.history.specs.Objects.{Object, Made, data_answer, data_unless, retag_answer, end_answer, answer}
+use Rattle.history.specs.Objects.{Object, Made, data_answer, data_unless, retag_answer, end_answer, answer, Reborrow, reborrow}
 use Rattle.history.specs.declared.log.ThreadLog.{ThreadLog}
 use Rattle.runs.specs.Interleaving.{Legal, MakesUnmade}
 use Rattle.runs.specs.Machine.{TurnsWithin}
 use Rattle.runs.specs.Merge.{entries_of}
 use Rattle.runs.specs.Objects.{objects}
-use Rattle.runs.specs.Parts.{names, child_of, Answers}
-use Rattle.runs.specs.Right.{HasLog, history_of}
-use Rattle.runs.specs.Stamps.{Has, RisesFrom}
+use Rattle.runs.specs.Parts.{Has, names, child_of, Answers}
+use Rattle.runs.specs.Right.{history_of}
+use Rattle.runs.specs.Stamps.{RisesFrom}
 use Rattle.runs.specs.Threads.{Feeds, StartsAs}
 use Rattle.runs.proofs.Differing.{in_part}
 use Rattle.runs.proofs.Merges.{in_own_thread}
@@ -105,7 +105,7 @@ data_made : (o : Object) (m : Option Made) (r : Request) → IsMade o → IsMade
 data_made o None r h = h
 data_made o (Some m) r h = unless_made o m r (trap_in m.memory r) h
 
-retag_made : (o : Object) (m : Option Made) (r : Request) (stamp : ℕ) → IsMade o → IsMade (retag_answer o m r stamp).object
+retag_made : (o : Object) (m : Option Made) (r : Reborrow) (stamp : ℕ) → IsMade o → IsMade (retag_answer o m r stamp).object
 retag_made o None r stamp h = h
 retag_made o (Some m) r stamp h = refl
 
@@ -115,7 +115,7 @@ end_made o (Some m) tag h = refl
 
 stays_made : (o : Object) (r : Request) (stamp : ℕ) → IsMade o → IsMade (answer o r (record { 0 = stamp })).object
 stays_made o (request.Make size place) stamp h = refl
-stays_made o (request.Retag at len kind guard prov) stamp h = retag_made o o.made (request.Retag at len kind guard prov) stamp h
+stays_made o (request.Retag at len kind guard prov) stamp h = retag_made o o.made (reborrow at len kind guard prov) stamp h
 stays_made o (request.EndProtector tag) stamp h = end_made o o.made tag h
 stays_made o (request.Load at ty prov) stamp h = data_made o o.made (request.Load at ty prov) h
 stays_made o (request.Store at ty value carried prov) stamp h = data_made o o.made (request.Store at ty value carried prov) h
@@ -186,7 +186,7 @@ histories_are_legal x limits hosts kept r a above le = record {
         flipped : Has (entries_of kept.threads e.thread.0) e × (names e.alloc a ≡ true) → (names e.alloc a ≡ true) × Has (entries_of kept.threads e.thread.0) e
         flipped p = (p.1, p.0)
 
-    first : (log : ThreadLog) → HasLog kept.threads log → TopFits x (r.runs.starts log.number.0).frames
+    first : (log : ThreadLog) → Has kept.threads log → TopFits x (r.runs.starts log.number.0).frames
     first log g = elim (r.threads.spawned log g) [
       | inl zero_is ↦ subst (λ n. TopFits x (r.runs.starts n).frames) (sym zero_is) (subst (λ (s : Source). TopFits x s.frames) (sym r.runs.first) ((requests_fit x).start (main_of x.program) []))
       | inr one ↦ (

@@ -13,7 +13,7 @@ use Rattle.history.specs.declared.entry.Request.TheVariants as request
 use Rattle.history.specs.declared.trap.Trap.{Trap}
 use Rattle.history.specs.declared.trap.Trap.TheVariants as trap
 use Rattle.history.specs.Memory.{Memory as Bytes, trap_in, is_bad_free}
-use Rattle.history.specs.Objects.{Object, Made, data_answer, data_unless, plain_reply, retag_answer, end_answer, answer}
+use Rattle.history.specs.Objects.{Object, Made, data_answer, data_unless, plain_reply, retag_answer, end_answer, answer, Reborrow, reborrow}
 use Rattle.history.specs.declared.log.End.{End}
 use Rattle.history.specs.declared.log.End.TheVariants as log_end
 use Rattle.history.specs.declared.log.ThreadLog.{ThreadLog}
@@ -22,10 +22,9 @@ use Rattle.runs.specs.Interleaving.{World, first_world, world_after, Allowed, Re
 use Rattle.runs.specs.Machine.{TurnsWithin}
 use Rattle.runs.specs.Merge.{merged, entries_of, MayMerge}
 use Rattle.runs.specs.Objects.{objects}
-use Rattle.runs.specs.Parts.{of_thread, child_of}
-use Rattle.runs.specs.Right.{HasLog, NumbersRiseFrom, IsRight}
+use Rattle.runs.specs.Parts.{Has, of_thread, child_of}
+use Rattle.runs.specs.Right.{NumbersRiseFrom, IsRight}
 use Rattle.runs.specs.RightErasure.{LimitAsked, LimitsAreAsked}
-use Rattle.runs.specs.Stamps.{Has}
 use Rattle.runs.specs.Threads.{Feeds, StartsAs, EndsAs}
 use Rattle.runs.proofs.Merges.{in_all}
 use Rattle.runs.proofs.MergeLaws.{merged_is_merge}
@@ -63,7 +62,7 @@ data_own : (o : Object) (m : Option Made) (r : Request) → PlainIsOwn (data_ans
 data_own o None r = tt
 data_own o (Some m) r = unless_own o m r (trap_in m.memory r) (trap_own m.memory r)
 
-retag_own : (o : Object) (m : Option Made) (r : Request) (stamp : ℕ) → PlainIsOwn (retag_answer o m r stamp).reply.plain
+retag_own : (o : Object) (m : Option Made) (r : Reborrow) (stamp : ℕ) → PlainIsOwn (retag_answer o m r stamp).reply.plain
 retag_own o None r stamp = tt
 retag_own o (Some m) r stamp = tt
 
@@ -73,7 +72,7 @@ end_own o (Some m) tag = tt
 
 answer_own : (o : Object) (r : Request) (stamp : ℕ) → PlainIsOwn (answer o r (record { 0 = stamp })).reply.plain
 answer_own o (request.Make size place) stamp = tt
-answer_own o (request.Retag at len kind guard prov) stamp = retag_own o o.made (request.Retag at len kind guard prov) stamp
+answer_own o (request.Retag at len kind guard prov) stamp = retag_own o o.made (reborrow at len kind guard prov) stamp
 answer_own o (request.EndProtector tag) stamp = end_own o o.made tag
 answer_own o (request.Load at ty prov) stamp = data_own o o.made (request.Load at ty prov)
 answer_own o (request.Store at ty value carried prov) stamp = data_own o o.made (request.Store at ty value carried prov)
@@ -123,15 +122,15 @@ module _ (x : Setting) (turns : ℕ) (starts : ℕ → Source) where
   child_own s last (y ∷ es) e c f (inr h) is = child_own ((source x).after f.0.now y) last es e c f.1 h is
 
 -- an entry of a thread's part stands in its log
-pub log_with : (logs : List ThreadLog) (t : ℕ) (e : Entry) → Has (entries_of logs t) e → (log : ThreadLog) × HasLog logs log × Has log.entries e
+pub log_with : (logs : List ThreadLog) (t : ℕ) (e : Entry) → Has (entries_of logs t) e → (log : ThreadLog) × Has logs log × Has log.entries e
 log_with [] t e h = absurd h
 log_with (l ∷ ls) t e h = by_test (l.number.0 == t) h (log_with ls t e)
   where
-    by_test : (b : Bool) → Has (if b then l.entries else entries_of ls t) e → (Has (entries_of ls t) e → (log : ThreadLog) × HasLog ls log × Has log.entries e) → (log : ThreadLog) × HasLog (l ∷ ls) log × Has log.entries e
+    by_test : (b : Bool) → Has (if b then l.entries else entries_of ls t) e → (Has (entries_of ls t) e → (log : ThreadLog) × Has ls log × Has log.entries e) → (log : ThreadLog) × Has (l ∷ ls) log × Has log.entries e
     by_test true g more = (l, inl refl, g)
     by_test false g more = let r = more g in (r.0, inr r.1, r.2)
 
-has_own : (logs : List ThreadLog) (log : ThreadLog) (k : ℕ) → NumbersRiseFrom k logs → HasLog logs log → entries_of logs log.number.0 ≡ log.entries
+has_own : (logs : List ThreadLog) (log : ThreadLog) (k : ℕ) → NumbersRiseFrom k logs → Has logs log → entries_of logs log.number.0 ≡ log.entries
 has_own [] log k r h = absurd h
 has_own (l ∷ ls) log k r (inl is) = elim (eqb_tells l.number.0 log.number.0) [
   | inl hit ↦ rw hit.0 (ap (λ (z : ThreadLog). z.entries) is)
@@ -147,7 +146,7 @@ pub limits_are_asked : (x : Setting) (A : Allowed) (limits : Limits) (kept : Run
 limits_are_asked x A limits kept may r log h =
     by_end (r.runs.runs log h).last log.«end» (r.runs.runs log h).«end» over
   where
-    replies : (l : ThreadLog) → HasLog kept.threads l → (e : Entry) → Has l.entries e → PlainIsOwn e.reply.plain
+    replies : (l : ThreadLog) → Has kept.threads l → (e : Entry) → Has l.entries e → PlainIsOwn e.reply.plain
     replies l g e in_ =
         let merge = merged_is_merge kept.threads r.threads.rise may in
         let part : of_thread l.number.0 (merged kept.threads) ≡ l.entries = merge.parts l.number.0 ∙ has_own kept.threads l 0 r.threads.rise g in

@@ -1,8 +1,10 @@
 -- The worked replays, pick by pick.
-use Rattle.std.proofs.Common.{◌≡◌, ◌≢◌, ℕ, zero, suc, ◌<◌, true, false, List, [], ◌∷◌, refl, sym, ap, ◌∙◌, inr, arith}
+use Rattle.std.proofs.Common.{◌≡◌, ◌≢◌, ℕ, zero, suc, ◌<◌, true, false, List, [], ◌∷◌, refl, sym, ap, ◌∙◌, inl, inr, arith}
 use Rattle.std.specs.Prelude.{Some, None, slice_get, unwrap_or}
 use Rattle.std.specs.declared.option.Option.{Option}
 use Rattle.std.proofs.lemmas.Bool.{true≢false}
+use Rattle.bsan_ids.specs.declared.numbers.Limits.{Limits}
+use Rattle.bsan_ids.specs.declared.numbers.Prov.{Prov}
 use Rattle.history.specs.declared.entry.Entry.{Entry}
 use Rattle.ir_ast.specs.declared.program.Program.{Program}
 use Rattle.history.specs.declared.log.End.{End}
@@ -16,8 +18,8 @@ use Rattle.runs.proofs.Tracking.{some_inj}
 use Rattle.source_sem.specs.Source.{Setting, Source, source, source_turn}
 use Rattle.source_sem.specs.Starting.{setting_of, main_of, main_start}
 use Rattle.source_sem.specs.Traces.{alloc}
-use Rattle.source_runs.specs.Setting.{allowed}
-use Rattle.source_runs.specs.Replays.{limits, no_hosts, ReplaysAs, racing, ending, made, retagged, stored, started, load_first, write_first, join_at_once, ReplaysByExample}
+use Rattle.source_sem.specs.Records.{no_hosts, allowed}
+use Rattle.source_runs.specs.Replays.{limits, counters, returned, ReplaysAs, racing, ending, made, retagged, stored, started, load_first, write_first, join_at_once, limiting, one_step, made_alone, limit_reached, stopping, load_freed, child_stopped, freed_trap, ReplaysByExample}
 
 few : (n : ℕ) → n < 1000 → n < limits.turns
 few n less = less
@@ -66,6 +68,10 @@ module _ (program : Program) where
   abbrev ends : P → ℕ → End → P
   ends p t why = picked M objects p t (fiber p t) (Ends (source_turn x (state p t)) why)
 
+  -- the thread's end, without a local turn
+  abbrev ends_now : P → ℕ → End → P
+  ends_now p t why = picked M objects p t (fiber p t) (Ends (state p t) why)
+
   -- thread t can be picked
   record Ready (p : P) (t : ℕ) : Type 0 where
     there : slice_get p.threads t ≡ Some (fiber p t)
@@ -75,13 +81,17 @@ module _ (program : Program) where
   can : (p : P) (t : ℕ) → Ready p t → CanGoOn M objects p t
   can p t r = (fiber p t, r.there, r.goes, r.free)
 
-  stepped : (p : P) (t : ℕ) (e : Entry) (over : Option End) → Ready p t → Chooses M objects (allowed limits no_hosts) limits p t (fiber p t) (Steps (state p t) e over)
-      → Picks M objects (allowed limits no_hosts) limits p t (step p t e over)
-  stepped p t e over r c = inr (fiber p t, Steps (state p t) e over, r.there, can p t r, c, refl)
+  stepped : (l : Limits) (p : P) (t : ℕ) (e : Entry) (over : Option End) → Ready p t → Chooses M objects (allowed l no_hosts) l p t (fiber p t) (Steps (state p t) e over)
+      → Picks M objects (allowed l no_hosts) l p t (step p t e over)
+  stepped l p t e over r c = inr (fiber p t, Steps (state p t) e over, r.there, can p t r, c, refl)
 
-  ended : (p : P) (t : ℕ) (why : End) → Ready p t → Chooses M objects (allowed limits no_hosts) limits p t (fiber p t) (Ends (source_turn x (state p t)) why)
-      → Picks M objects (allowed limits no_hosts) limits p t (ends p t why)
-  ended p t why r c = inr (fiber p t, Ends (source_turn x (state p t)) why, r.there, can p t r, c, refl)
+  ended : (l : Limits) (p : P) (t : ℕ) (why : End) → Ready p t → Chooses M objects (allowed l no_hosts) l p t (fiber p t) (Ends (source_turn x (state p t)) why)
+      → Picks M objects (allowed l no_hosts) l p t (ends p t why)
+  ended l p t why r c = inr (fiber p t, Ends (source_turn x (state p t)) why, r.there, can p t r, c, refl)
+
+  ended_now : (l : Limits) (p : P) (t : ℕ) (why : End) → Ready p t → Chooses M objects (allowed l no_hosts) l p t (fiber p t) (Ends (state p t) why)
+      → Picks M objects (allowed l no_hosts) l p t (ends_now p t why)
+  ended_now l p t why r c = inr (fiber p t, Ends (state p t) why, r.there, can p t r, c, refl)
 
   -- the thread waits for a child, or has ended
   stays : (p : P) (t : ℕ) → slice_get p.threads t ≡ Some (fiber p t) → waits M objects p (M.ask (state p t)) ≡ true → CanGoOn M objects p t → ⊥
@@ -121,9 +131,6 @@ two_others Q zero_ one (suc (suc u)) less = absurd (omega (arith, less))
 not_begun : {B : Type 0} → false ≡ true → B
 not_begun is = true_false (sym is)
 
-abbrev returned : End
-returned = log_end.Returned 0 None
-
 -- the load is first ----------------------------------------------------------------
 
 abbrev l1 : P racing
@@ -142,19 +149,19 @@ l4 = step racing l3 0 started None
 first_four : (q : P racing) (ts : List ℕ) → Plays (M racing) objects (allowed limits no_hosts) limits l4 ts q → Plays (M racing) objects (allowed limits no_hosts) limits (begin racing) (0 ∷ 0 ∷ 0 ∷ 0 ∷ ts) q
 first_four q ts rest = (
   l1,
-  stepped racing (begin racing) 0 made None (ready racing (begin racing) 0 refl refl refl)
+  stepped racing limits (begin racing) 0 made None (ready racing (begin racing) 0 refl refl refl)
       ((0, refl), λ h. few 0 (omega arith), few_allocs 0 (omega arith), few 0 (omega arith), refl, refl, refl, refl, (refl, refl), goes_on (M racing) limits (state racing l1 0) (λ why h. cc) (other_count 1 (omega arith))),
   (
     l2,
-    stepped racing l1 0 retagged None (ready racing l1 0 refl refl refl)
+    stepped racing limits l1 0 retagged None (ready racing l1 0 refl refl refl)
         ((0, refl), λ h. few 1 (omega arith), tt, few 1 (omega arith), refl, refl, refl, (refl, refl, tt), (alloc 1, refl, refl), goes_on (M racing) limits (state racing l2 0) (λ why h. cc) (other_count 2 (omega arith))),
     (
       l3,
-      stepped racing l2 0 stored None (ready racing l2 0 refl refl refl)
+      stepped racing limits l2 0 stored None (ready racing l2 0 refl refl refl)
           ((0, refl), λ h. few 2 (omega arith), tt, few 2 (omega arith), refl, refl, refl, (refl, refl, tt), (alloc 1, refl, refl), goes_on (M racing) limits (state racing l3 0) (λ why h. cc) (other_count 3 (omega arith))),
       (
         l4,
-        stepped racing l3 0 started None (ready racing l3 0 refl refl refl)
+        stepped racing limits l3 0 started None (ready racing l3 0 refl refl refl)
             ((0, refl), λ h. few 3 (omega arith), few_threads 0 (omega arith), few 3 (omega arith), refl, refl, refl, (refl, refl), refl, goes_on (M racing) limits (state racing l4 0) (λ why h. cc) (other_count 4 (omega arith))),
         rest,
       ),
@@ -189,7 +196,7 @@ l8 = step racing l7 0 join_loader None
 abbrev l9 : P racing
 l9 = step racing l8 0 free_closed (Some returned)
 
-load_first_runs : ReplaysAs racing (0 ∷ 0 ∷ 0 ∷ 0 ∷ 1 ∷ 0 ∷ []) load_first
+load_first_runs : ReplaysAs racing limits (0 ∷ 0 ∷ 0 ∷ 0 ∷ 1 ∷ 0 ∷ []) load_first (counters 8 1 1) (returned ∷ returned ∷ [])
 load_first_runs = record {
   last = l9;
   replay = record {
@@ -198,11 +205,11 @@ load_first_runs = record {
     scheduled =
         first_four l6 (1 ∷ 0 ∷ []) (
           l5,
-          stepped racing l4 1 early_load None (ready racing l4 1 refl refl refl)
+          stepped racing limits l4 1 early_load None (ready racing l4 1 refl refl refl)
               ((0, refl), λ h. few 0 (omega arith), tt, few 4 (omega arith), refl, refl, refl, (refl, refl, tt), (alloc 1, refl, refl), goes_on (M racing) limits (state racing l5 1) (λ why h. cc) (other_count 1 (omega arith))),
           (
             l6,
-            stepped racing l5 0 late_store None (ready racing l5 0 refl refl refl)
+            stepped racing limits l5 0 late_store None (ready racing l5 0 refl refl refl)
                 ((0, refl), λ h. few 4 (omega arith), tt, few 5 (omega arith), refl, refl, refl, (refl, refl, tt), (alloc 1, refl, refl), goes_on (M racing) limits (state racing l6 0) (λ why h. cc) (other_count 5 (omega arith))),
             refl,
           ),
@@ -212,20 +219,20 @@ load_first_runs = record {
       one_other (λ u. CanGoOn (M racing) objects l6 u → ⊥) (stays racing l6 0 refl refl),
       (
         l7,
-        ended racing l6 1 returned (ready racing l6 1 refl refl refl) ((1, (refl, λ h. few 1 (omega arith), refl)), (refl, λ h. not_begun h), tt),
+        ended racing limits l6 1 returned (ready racing l6 1 refl refl refl) ((1, (refl, λ h. few 1 (omega arith), refl)), (refl, λ h. not_begun h), tt),
         (
           can racing l7 0 (ready racing l7 0 refl refl refl),
           (λ u less c. no_other u less),
           (
             l8,
-            stepped racing l7 0 join_loader None (ready racing l7 0 refl refl refl)
+            stepped racing limits l7 0 join_loader None (ready racing l7 0 refl refl refl)
                 ((0, refl), λ h. few 5 (omega arith), (0, None, refl), few 6 (omega arith), refl, refl, refl, (refl, refl), (0, None, refl, refl), goes_on (M racing) limits (state racing l8 0) (λ why h. cc) (other_count 6 (omega arith))),
             (
               can racing l8 0 (ready racing l8 0 refl refl refl),
               (λ u less c. no_other u less),
               (
                 l9,
-                stepped racing l8 0 free_closed (Some returned) (ready racing l8 0 refl refl refl)
+                stepped racing limits l8 0 free_closed (Some returned) (ready racing l8 0 refl refl refl)
                     ((0, refl), λ h. few 6 (omega arith), tt, few 7 (omega arith), refl, refl, refl, (refl, refl, tt), (alloc 1, refl, refl), (tt, (refl, λ h. not_begun h))),
                 refl,
               ),
@@ -237,6 +244,8 @@ load_first_runs = record {
     over = all_over;
   };
   merge = refl;
+  drawn = refl;
+  ended = refl;
 }
   where
     all_over : (t : ℕ) (f : Fiber (M racing)) → slice_get l9.threads t ≡ Some f → f.«end» ≢ None
@@ -273,7 +282,7 @@ w8 = step racing w7 0 join_late None
 abbrev w9 : P racing
 w9 = step racing w8 0 free_clean (Some returned)
 
-write_first_runs : ReplaysAs racing (0 ∷ 0 ∷ 0 ∷ 0 ∷ 0 ∷ 1 ∷ []) write_first
+write_first_runs : ReplaysAs racing limits (0 ∷ 0 ∷ 0 ∷ 0 ∷ 0 ∷ 1 ∷ []) write_first (counters 8 1 1) (returned ∷ returned ∷ [])
 write_first_runs = record {
   last = w9;
   replay = record {
@@ -282,11 +291,11 @@ write_first_runs = record {
     scheduled =
         first_four w6 (0 ∷ 1 ∷ []) (
           w5,
-          stepped racing l4 0 early_store None (ready racing l4 0 refl refl refl)
+          stepped racing limits l4 0 early_store None (ready racing l4 0 refl refl refl)
               ((0, refl), λ h. few 4 (omega arith), tt, few 4 (omega arith), refl, refl, refl, (refl, refl, tt), (alloc 1, refl, refl), goes_on (M racing) limits (state racing w5 0) (λ why h. cc) (other_count 5 (omega arith))),
           (
             w6,
-            stepped racing w5 1 late_load None (ready racing w5 1 refl refl refl)
+            stepped racing limits w5 1 late_load None (ready racing w5 1 refl refl refl)
                 ((0, refl), λ h. few 0 (omega arith), tt, few 5 (omega arith), refl, refl, refl, (refl, refl, tt), (alloc 1, refl, refl), goes_on (M racing) limits (state racing w6 1) (λ why h. cc) (other_count 1 (omega arith))),
             refl,
           ),
@@ -296,20 +305,20 @@ write_first_runs = record {
       one_other (λ u. CanGoOn (M racing) objects w6 u → ⊥) (stays racing w6 0 refl refl),
       (
         w7,
-        ended racing w6 1 returned (ready racing w6 1 refl refl refl) ((1, (refl, λ h. few 1 (omega arith), refl)), (refl, λ h. not_begun h), tt),
+        ended racing limits w6 1 returned (ready racing w6 1 refl refl refl) ((1, (refl, λ h. few 1 (omega arith), refl)), (refl, λ h. not_begun h), tt),
         (
           can racing w7 0 (ready racing w7 0 refl refl refl),
           (λ u less c. no_other u less),
           (
             w8,
-            stepped racing w7 0 join_late None (ready racing w7 0 refl refl refl)
+            stepped racing limits w7 0 join_late None (ready racing w7 0 refl refl refl)
                 ((0, refl), λ h. few 5 (omega arith), (0, None, refl), few 6 (omega arith), refl, refl, refl, (refl, refl), (0, None, refl, refl), goes_on (M racing) limits (state racing w8 0) (λ why h. cc) (other_count 6 (omega arith))),
             (
               can racing w8 0 (ready racing w8 0 refl refl refl),
               (λ u less c. no_other u less),
               (
                 w9,
-                stepped racing w8 0 free_clean (Some returned) (ready racing w8 0 refl refl refl)
+                stepped racing limits w8 0 free_clean (Some returned) (ready racing w8 0 refl refl refl)
                     ((0, refl), λ h. few 6 (omega arith), tt, few 7 (omega arith), refl, refl, refl, (refl, refl, tt), (alloc 1, refl, refl), (tt, (refl, λ h. not_begun h))),
                 refl,
               ),
@@ -321,6 +330,8 @@ write_first_runs = record {
     over = all_over;
   };
   merge = refl;
+  drawn = refl;
+  ended = refl;
 }
   where
     all_over : (t : ℕ) (f : Fiber (M racing)) → slice_get w9.threads t ≡ Some f → f.«end» ≢ None
@@ -381,7 +392,7 @@ e8 = ends ending e7 2 returned
 abbrev e9 : P ending
 e9 = step ending e8 0 join_two (Some returned)
 
-ended_at_once_runs : ReplaysAs ending (0 ∷ 0 ∷ 0 ∷ 1 ∷ 1 ∷ 0 ∷ 2 ∷ []) join_at_once
+ended_at_once_runs : ReplaysAs ending limits (0 ∷ 0 ∷ 0 ∷ 1 ∷ 1 ∷ 0 ∷ 2 ∷ []) join_at_once (counters 8 1 2) (returned ∷ returned ∷ returned ∷ [])
 ended_at_once_runs = record {
   last = e9;
   replay = record {
@@ -389,31 +400,31 @@ ended_at_once_runs = record {
     picks = 2 ∷ 0 ∷ [];
     scheduled = (
       e1,
-      stepped ending (begin ending) 0 made_heap None (ready ending (begin ending) 0 refl refl refl)
+      stepped ending limits (begin ending) 0 made_heap None (ready ending (begin ending) 0 refl refl refl)
           ((0, refl), λ h. few 0 (omega arith), few_allocs 0 (omega arith), few 0 (omega arith), refl, refl, refl, refl, (refl, refl), goes_on (M ending) limits (state ending e1 0) (λ why h. cc) (other_count 1 (omega arith))),
       (
         e2,
-        stepped ending e1 0 started_one None (ready ending e1 0 refl refl refl)
+        stepped ending limits e1 0 started_one None (ready ending e1 0 refl refl refl)
             ((0, refl), λ h. few 1 (omega arith), few_threads 0 (omega arith), few 1 (omega arith), refl, refl, refl, (refl, refl), refl, goes_on (M ending) limits (state ending e2 0) (λ why h. cc) (other_count 2 (omega arith))),
         (
           e3,
-          stepped ending e2 0 started_two None (ready ending e2 0 refl refl refl)
+          stepped ending limits e2 0 started_two None (ready ending e2 0 refl refl refl)
               ((0, refl), λ h. few 2 (omega arith), few_threads 1 (omega arith), few 2 (omega arith), refl, refl, refl, (refl, refl), refl, goes_on (M ending) limits (state ending e3 0) (λ why h. cc) (other_count 3 (omega arith))),
           (
             e4,
-            stepped ending e3 1 entered None (ready ending e3 1 refl refl refl)
+            stepped ending limits e3 1 entered None (ready ending e3 1 refl refl refl)
                 ((0, refl), λ h. few 0 (omega arith), tt, few 3 (omega arith), refl, refl, refl, (refl, refl, tt), (alloc 1, refl, refl), goes_on (M ending) limits (state ending e4 1) (λ why h. cc) (other_count 0 (omega arith))),
             (
               e5,
-              stepped ending e4 1 unprotected (Some returned) (ready ending e4 1 refl refl refl)
+              stepped ending limits e4 1 unprotected (Some returned) (ready ending e4 1 refl refl refl)
                   ((0, refl), λ h. few 0 (omega arith), tt, few 4 (omega arith), refl, refl, refl, (refl, refl, tt), (alloc 1, refl, refl), (tt, (refl, λ h. not_begun h))),
               (
                 e6,
-                stepped ending e5 0 join_one None (ready ending e5 0 refl refl refl)
+                stepped ending limits e5 0 join_one None (ready ending e5 0 refl refl refl)
                     ((0, refl), λ h. few 3 (omega arith), (0, None, refl), few 5 (omega arith), refl, refl, refl, (refl, refl), (0, None, refl, refl), goes_on (M ending) limits (state ending e6 0) (λ why h. cc) (other_count 4 (omega arith))),
                 (
                   e7,
-                  stepped ending e6 2 load_two None (ready ending e6 2 refl refl refl)
+                  stepped ending limits e6 2 load_two None (ready ending e6 2 refl refl refl)
                       ((0, refl), λ h. few 0 (omega arith), tt, few 6 (omega arith), refl, refl, refl, (refl, refl, tt), (alloc 1, refl, refl), goes_on (M ending) limits (state ending e7 2) (λ why h. cc) (other_count 1 (omega arith))),
                   refl,
                 ),
@@ -428,13 +439,13 @@ ended_at_once_runs = record {
       two_others (λ u. CanGoOn (M ending) objects e7 u → ⊥) (stays ending e7 0 refl refl) (gone ending e7 1 returned refl refl),
       (
         e8,
-        ended ending e7 2 returned (ready ending e7 2 refl refl refl) ((1, (refl, λ h. few 1 (omega arith), refl)), (refl, λ h. not_begun h), tt),
+        ended ending limits e7 2 returned (ready ending e7 2 refl refl refl) ((1, (refl, λ h. few 1 (omega arith), refl)), (refl, λ h. not_begun h), tt),
         (
           can ending e8 0 (ready ending e8 0 refl refl refl),
           (λ u less c. no_other u less),
           (
             e9,
-            stepped ending e8 0 join_two (Some returned) (ready ending e8 0 refl refl refl)
+            stepped ending limits e8 0 join_two (Some returned) (ready ending e8 0 refl refl refl)
                 ((0, refl), λ h. few 4 (omega arith), (0, None, refl), few 7 (omega arith), refl, refl, refl, (refl, refl), (0, None, refl, refl), (tt, (refl, λ h. not_begun h))),
             refl,
           ),
@@ -444,6 +455,8 @@ ended_at_once_runs = record {
     over = all_over;
   };
   merge = refl;
+  drawn = refl;
+  ended = refl;
 }
   where
     all_over : (t : ℕ) (f : Fiber (M ending)) → slice_get e9.threads t ≡ Some f → f.«end» ≢ None
@@ -452,5 +465,142 @@ ended_at_once_runs = record {
     all_over (suc (suc zero)) f at = over_at ending (fiber ending e9 2) f returned at refl
     all_over (suc (suc (suc t))) f at = no_fiber ending f at
 
+-- a step limit at a Spawn -----------------------------------------------------------------
+
+abbrev made_only : Entry
+made_only = unwrap_or (slice_get made_alone 0) made
+
+abbrev s1 : P limiting
+s1 = step limiting (begin limiting) 0 made_only None
+
+abbrev s2 : P limiting
+s2 = ends_now limiting s1 0 limit_reached
+
+limited_spawn_runs : ReplaysAs limiting one_step [] made_alone (counters 2 1 1) (limit_reached ∷ [])
+limited_spawn_runs = record {
+  last = s2;
+  replay = record {
+    mid = begin limiting;
+    picks = 0 ∷ 0 ∷ [];
+    scheduled = refl;
+    least = (
+      can limiting (begin limiting) 0 (ready limiting (begin limiting) 0 refl refl refl),
+      (λ u less c. no_other u less),
+      (
+        s1,
+        stepped limiting one_step (begin limiting) 0 made_only None (ready limiting (begin limiting) 0 refl refl refl)
+            ((0, refl), λ h. few 0 (omega arith), few_allocs 0 (omega arith), no_step, refl, refl, refl, refl, (refl, refl), goes_on (M limiting) one_step (state limiting s1 0) (λ why h. cc) (other_count 1 (omega arith))),
+        (
+          can limiting s1 0 (ready limiting s1 0 refl refl refl),
+          (λ u less c. no_other u less),
+          (
+            s2,
+            ended_now limiting one_step s1 0 limit_reached (ready limiting s1 0 refl refl refl) ((0, refl), (tt, above, λ h. few 1 (omega arith)), (refl, few_threads 0 (omega arith))),
+            refl,
+          ),
+        ),
+      ),
+    );
+    over = all_over;
+  };
+  merge = refl;
+  drawn = refl;
+  ended = refl;
+}
+  where
+    no_step : 0 < 1
+    no_step = omega arith
+
+    above : 1 < 2
+    above = omega arith
+
+    all_over : (t : ℕ) (f : Fiber (M limiting)) → slice_get s2.threads t ≡ Some f → f.«end» ≢ None
+    all_over zero f at = over_at limiting (fiber limiting s2 0) f limit_reached at refl
+    all_over (suc t) f at = no_fiber limiting f at
+
+-- a child that ended early is joined ---------------------------------------------------------
+
+abbrev made_freed : Entry
+made_freed = unwrap_or (slice_get load_freed 0) made
+
+abbrev freed : Entry
+freed = unwrap_or (slice_get load_freed 1) made
+
+abbrev started_loader : Entry
+started_loader = unwrap_or (slice_get load_freed 2) made
+
+abbrev trapped_load : Entry
+trapped_load = unwrap_or (slice_get load_freed 3) made
+
+abbrev c1 : P stopping
+c1 = step stopping (begin stopping) 0 made_freed None
+
+abbrev c2 : P stopping
+c2 = step stopping c1 0 freed None
+
+abbrev c3 : P stopping
+c3 = step stopping c2 0 started_loader None
+
+abbrev c4 : P stopping
+c4 = step stopping c3 1 trapped_load (Some freed_trap)
+
+abbrev c5 : P stopping
+c5 = ends_now stopping c4 0 child_stopped
+
+stopped_child_runs : ReplaysAs stopping limits (0 ∷ 0 ∷ 0 ∷ 0 ∷ []) load_freed (counters 4 1 1) (child_stopped ∷ freed_trap ∷ [])
+stopped_child_runs = record {
+  last = c5;
+  replay = record {
+    mid = c3;
+    picks = 1 ∷ 0 ∷ [];
+    scheduled = (
+      c1,
+      stepped stopping limits (begin stopping) 0 made_freed None (ready stopping (begin stopping) 0 refl refl refl)
+          ((0, refl), λ h. few 0 (omega arith), few_allocs 0 (omega arith), few 0 (omega arith), refl, refl, refl, refl, (refl, refl), goes_on (M stopping) limits (state stopping c1 0) (λ why h. cc) (other_count 1 (omega arith))),
+      (
+        c2,
+        stepped stopping limits c1 0 freed None (ready stopping c1 0 refl refl refl)
+            ((0, refl), λ h. few 1 (omega arith), tt, few 1 (omega arith), refl, refl, refl, (refl, refl, tt), (alloc 1, refl, refl), goes_on (M stopping) limits (state stopping c2 0) (λ why h. cc) (other_count 2 (omega arith))),
+        (
+          c3,
+          stepped stopping limits c2 0 started_loader None (ready stopping c2 0 refl refl refl)
+              ((0, refl), λ h. few 2 (omega arith), few_threads 0 (omega arith), few 2 (omega arith), refl, refl, refl, (refl, refl), refl, goes_on (M stopping) limits (state stopping c3 0) (λ why h. cc) (other_count 3 (omega arith))),
+          (c3, inl (stays stopping c3 0 refl refl, refl), refl),
+        ),
+      ),
+    );
+    least = (
+      can stopping c3 1 (ready stopping c3 1 refl refl refl),
+      one_other (λ u. CanGoOn (M stopping) objects c3 u → ⊥) (stays stopping c3 0 refl refl),
+      (
+        c4,
+        stepped stopping limits c3 1 trapped_load (Some freed_trap) (ready stopping c3 1 refl refl refl)
+            ((0, refl), λ h. few 0 (omega arith), tt, few 3 (omega arith), refl, refl, refl, (refl, refl, tt), (alloc 1, refl, refl), (tt, (inl refl, λ h. not_begun h))),
+        (
+          can stopping c4 0 (ready stopping c4 0 refl refl refl),
+          (λ u less c. no_other u less),
+          (
+            c5,
+            ended_now stopping limits c4 0 child_stopped (ready stopping c4 0 refl refl refl) ((0, refl), (refl, λ h. few 3 (omega arith)), (freed_trap, refl, λ v q h. no_return v q h)),
+            refl,
+          ),
+        ),
+      ),
+    );
+    over = all_over;
+  };
+  merge = refl;
+  drawn = refl;
+  ended = refl;
+}
+  where
+    no_return : (v : ℕ) (q : Option Prov) → freed_trap ≡ log_end.Returned v q → ⊥
+    no_return v q h = cc
+
+    all_over : (t : ℕ) (f : Fiber (M stopping)) → slice_get c5.threads t ≡ Some f → f.«end» ≢ None
+    all_over zero f at = over_at stopping (fiber stopping c5 0) f child_stopped at refl
+    all_over (suc zero) f at = over_at stopping (fiber stopping c5 1) f freed_trap at refl
+    all_over (suc (suc t)) f at = no_fiber stopping f at
+
 pub replays_by_example : ReplaysByExample
-replays_by_example = record { load_first = load_first_runs; write_first = write_first_runs; ended_at_once = ended_at_once_runs }
+replays_by_example = record { load_first = load_first_runs; write_first = write_first_runs; ended_at_once = ended_at_once_runs; limited_spawn = limited_spawn_runs; stopped_child = stopped_child_runs }

@@ -25,14 +25,14 @@ use Rattle.history.specs.declared.log.AllocLog.{AllocLog}
 use Rattle.history.specs.declared.log.End.TheVariants as log_end
 use Rattle.history.specs.declared.log.ThreadLog.{ThreadLog}
 use Rattle.history.specs.Objects.{clean}
-use Rattle.runs.specs.Parts.{of_thread, of_alloc, names, child_of}
+use Rattle.runs.specs.Parts.{Has, of_thread, of_alloc, names, child_of}
 use Rattle.runs.specs.Machine.{TurnsTo}
 use Rattle.runs.specs.Threads.{IsThreadRun}
 use Rattle.runs.specs.Interleaving.{Event, HasReturned, Legal, World, first_world, world_after}
-use Rattle.runs.specs.Merge.{merged, MayMerge, no_logs, one_more, entries_of}
+use Rattle.runs.specs.Merge.{all_entries, merged, MayMerge, no_logs, one_more, entries_of}
 use Rattle.runs.specs.Objects.{objects}
-use Rattle.runs.specs.Stamps.{Has, RisesFrom}
-use Rattle.runs.specs.Right.{HasLog, HasThreads, HasRuns, HasHistories, HasCounts, IsSpawnedOnce, starts_thread, IsReached, is_main, is_spawned, AllocsRiseFrom, history_of, end_of}
+use Rattle.runs.specs.Stamps.{RisesFrom}
+use Rattle.runs.specs.Right.{HasThreads, HasRuns, HasHistories, HasCounts, IsSpawnedOnce, starts_thread, IsReached, is_main, is_spawned, AllocsRiseFrom, history_of, end_of}
 use Rattle.runs.specs.Tree.{IsEntryRight, EndAbove, IsFamily, IsStarted, IsJoined, IsStepRight, Agrees, AreRuns, IsClosedHistory, IsWholeRun}
 use Rattle.runs.proofs.Assembly.{promises_make_one_run}
 use Rattle.runs.proofs.Counting.{one_if, weigh_with}
@@ -42,12 +42,12 @@ use Rattle.runs.proofs.Order.{none_is_some}
 use Rattle.source_sem.specs.Source.{Source, source, source_ask, source_turn, source_answer, source_child}
 use Rattle.source_sem.specs.Traces.{alloc}
 use Rattle.source_sem.specs.Starting.{main_of}
-use Rattle.source_runs.specs.Setting.{allowed}
-use Rattle.source_runs.specs.TwoThreads.{program, no_hosts, limits, x, Told, make_x, make_y, spawn_f, store_y, store_x, join_f, main_log, child_log, thread_logs, alloc_logs, short_logs, right, early, late, twice, kept_away, misjoined, kept, start, Promises, IsOneRun, AfterSpawn, BeforeJoin, SpawnBeforeJoin, JoinsGiveResults, HasParts, Promise, same, Kept, Spawning, Joining, OneStamp, Restriction, JoinedValue, BreaksAlone, EachIsNeeded, IsMet}
+use Rattle.source_sem.specs.Records.{no_hosts, allowed}
+use Rattle.source_runs.specs.TwoThreads.{program, limits, x, Told, make_x, make_y, spawn_f, store_y, store_x, join_f, main_log, child_log, thread_logs, alloc_logs, short_logs, right, early, late, twice, kept_away, misjoined, kept, start, Promises, IsOneRun, AfterSpawn, BeforeJoin, SpawnBeforeJoin, JoinsGiveResults, HasParts, Promise, same, Kept, Spawning, Joining, OneStamp, Restriction, JoinedValue, BreaksAlone, EachIsNeeded, IsMet}
 
 -- cases over the logs and their entries ------------------------------------------
 
-for_logs : (t : Told) (P : ThreadLog → Type 0) → P (main_log t) → P (child_log t) → (log : ThreadLog) → HasLog (thread_logs t) log → P log
+for_logs : (t : Told) (P : ThreadLog → Type 0) → P (main_log t) → P (child_log t) → (log : ThreadLog) → Has (thread_logs t) log → P log
 for_logs t P a b log (inl is) = subst P is a
 for_logs t P a b log (inr (inl is)) = subst P is b
 for_logs t P a b log (inr (inr h)) = absurd h
@@ -201,10 +201,10 @@ threads t = record {
         answers = refl;
         once = started_once t;
       }));
-  children = λ log e f in_log in_e is. for_logs t (λ l. Has l.entries e → (child : ThreadLog) × HasLog (thread_logs t) child × (e.reply.plain ≡ plain.Spawned child.number))
-      (λ h. for_main t (λ z. z.request ≡ request.Spawn f → (child : ThreadLog) × HasLog (thread_logs t) child × (z.reply.plain ≡ plain.Spawned child.number))
+  children = λ log e f in_log in_e is. for_logs t (λ l. Has l.entries e → (child : ThreadLog) × Has (thread_logs t) child × (e.reply.plain ≡ plain.Spawned child.number))
+      (λ h. for_main t (λ z. z.request ≡ request.Spawn f → (child : ThreadLog) × Has (thread_logs t) child × (z.reply.plain ≡ plain.Spawned child.number))
       (no_spawn _ f refl) (no_spawn _ f refl) (λ k. (child_log t, inr (inl refl), refl)) (no_spawn _ f refl) (no_spawn _ f refl) e h is)
-      (λ h. for_child t (λ z. z.request ≡ request.Spawn f → (child : ThreadLog) × HasLog (thread_logs t) child × (z.reply.plain ≡ plain.Spawned child.number)) (no_spawn _ f refl) e h is)
+      (λ h. for_child t (λ z. z.request ≡ request.Spawn f → (child : ThreadLog) × Has (thread_logs t) child × (z.reply.plain ≡ plain.Spawned child.number)) (no_spawn _ f refl) e h is)
       log in_log in_e;
 }
 
@@ -216,7 +216,7 @@ joins_give t zero_is log e c in_log in_e is =
     for_logs t (λ l. Has l.entries e → P e) (λ h. for_main t Q (no_join _ c refl) (no_join _ c refl) (no_join _ c refl) (no_join _ c refl) joined e h is) (λ h. for_child t Q (no_join _ c refl) e h is) log in_log in_e
   where
     P : Entry → Type 0
-    P z = (v : ℕ) × (z.reply.plain ≡ plain.Value v) × (end_of (thread_logs t) c.0 ≡ log_end.Returned v z.reply.carried) × ((child : ThreadLog) × HasLog (thread_logs t) child × (child.number ≡ c))
+    P z = (v : ℕ) × (z.reply.plain ≡ plain.Value v) × (end_of (thread_logs t) c.0 ≡ log_end.Returned v z.reply.carried) × ((child : ThreadLog) × Has (thread_logs t) child × (child.number ≡ c))
 
     Q : Entry → Type 0
     Q z = z.request ≡ request.Join c → P z
@@ -226,8 +226,8 @@ joins_give t zero_is log e c in_log in_e is =
         let c_is : record { 0 = 1 } ≡ c = join_inj (record { 0 = 1 }) c k in
         (0, ap plain.Value zero_is, subst (λ (n : ThreadNo). end_of (thread_logs t) n.0 ≡ log_end.Returned 0 None) c_is refl, (child_log t, inr (inl refl), c_is))
 
-no_child_ended : (t : Told) (log : ThreadLog) (c : ThreadNo) → HasLog (thread_logs t) log → log.«end» ≡ log_end.ChildEnded c
-    → ((child : ThreadLog) × HasLog (thread_logs t) child × (child.number ≡ c)) × ((v : ℕ) (p : Option Prov) → end_of (thread_logs t) c.0 ≢ log_end.Returned v p)
+no_child_ended : (t : Told) (log : ThreadLog) (c : ThreadNo) → Has (thread_logs t) log → log.«end» ≡ log_end.ChildEnded c
+    → ((child : ThreadLog) × Has (thread_logs t) child × (child.number ≡ c)) × ((v : ℕ) (p : Option Prov) → end_of (thread_logs t) c.0 ≢ log_end.Returned v p)
 no_child_ended t log c in_log is = absurd (for_logs t (λ l. l.«end» ≡ log_end.ChildEnded c → ⊥) (λ h. cc) (λ h. cc) log in_log is)
 
 -- the allocations --------------------------------------------------------------------
@@ -253,7 +253,7 @@ parts_are t a u above le = by_alloc (λ n. of_thread u (history_of (alloc_logs t
 
 -- the order of stamps -----------------------------------------------------------------
 
-rises : (t : Told) → Stamped t → (log : ThreadLog) → HasLog (thread_logs t) log → RisesFrom 0 log.entries
+rises : (t : Told) → Stamped t → (log : ThreadLog) → Has (thread_logs t) log → RisesFrom 0 log.entries
 rises t s = for_logs t (λ log. RisesFrom 0 log.entries) (main_rises t s) (child_rises t s)
 
 after_spawn : (t : Told) → t.spawn < t.child → AfterSpawn (thread_logs t)
@@ -307,7 +307,7 @@ may_merge t s not2 not_spawn not_store not_join =
     apart : (z : Entry) → Has (store_x t ∷ []) z → (n : ℕ) → t.child ≢ n → z.stamp.0 ≢ n
     apart z in_z n ne = for_child t (λ w. w.stamp.0 ≢ n) ne z in_z
 
-entries_right : (t : Told) (log : ThreadLog) (e : Entry) → HasLog (thread_logs t) log → Has log.entries e → IsEntryRight (allowed limits no_hosts) e e.request
+entries_right : (t : Told) (log : ThreadLog) (e : Entry) → Has (thread_logs t) log → Has log.entries e → IsEntryRight (allowed limits no_hosts) e e.request
 entries_right t log e in_log in_e =
     for_logs t (λ l. Has l.entries e → IsEntryRight (allowed limits no_hosts) e e.request)
     (λ h. for_main t (λ z. IsEntryRight (allowed limits no_hosts) z z.request)
@@ -317,7 +317,7 @@ entries_right t log e in_log in_e =
 
 at_most_six : (t : Told) → Stamped t → (e : Entry) → Has (merged (thread_logs t)) e → e.stamp.0 ≤ 6
 at_most_six t s e h =
-    elim (in_merged_with (main_log t).entries (merged (child_log t ∷ [])) e h) [
+    elim (in_merged_with (main_log t).entries (all_entries (child_log t ∷ [])) e h) [
       | inl main ↦ for_main t (λ z. z.stamp.0 ≤ 6) (omega arith) (omega arith)
           (let a = s.stored in let b = s.joined in let c = s.last in omega (arith, a, b, c))
           (let b = s.joined in let c = s.last in omega (arith, b, c)) s.last e main
@@ -356,7 +356,7 @@ none_named a (e ∷ es) none = rw (none e (inl refl)) (none_named a es (λ y h. 
 
 no_name : (t : Told) (a : ℕ) → (1 == a) ≡ false → (2 == a) ≡ false → of_alloc a (merged (thread_logs t)) ≡ []
 no_name t a one two = none_named a (merged (thread_logs t)) (λ e h.
-    elim (in_merged_with (main_log t).entries (merged (child_log t ∷ [])) e h) [
+    elim (in_merged_with (main_log t).entries (all_entries (child_log t ∷ [])) e h) [
       | inl main ↦ for_main t (λ z. names z.alloc a ≡ false) one two refl two refl e main
       | inr child ↦ for_child t (λ z. names z.alloc a ≡ false) one e child
     ])
@@ -630,7 +630,7 @@ step_off z at right_ less = record { right = right_; within = less; outside = λ
 small : (n : ℕ) → n < 1000 → n ≤ limits.steps
 small n less = omega (arith, less)
 
-whole_steps : (log : ThreadLog) (e : Entry) → HasLog (thread_logs right) log → Has log.entries e → IsStepRight objects (allowed limits no_hosts) limits e
+whole_steps : (log : ThreadLog) (e : Entry) → Has (thread_logs right) log → Has log.entries e → IsStepRight objects (allowed limits no_hosts) limits e
 whole_steps log e in_log in_e = for_logs right (λ l. Has l.entries e → IsStepRight objects (allowed limits no_hosts) limits e)
     (λ h. for_main right (IsStepRight objects (allowed limits no_hosts) limits)
     (step_on make_x 1 refl (omega arith) (omega arith) (alloc 1, refl, omega arith, omega arith) (small 1 (omega arith)))
@@ -641,7 +641,7 @@ whole_steps log e in_log in_e = for_logs right (λ l. Has l.entries e → IsStep
     (λ h. for_child right (IsStepRight objects (allowed limits no_hosts) limits) (step_on (store_x right) 1 refl (omega arith) (omega arith) (alloc 1, refl) (small 5 (omega arith))) e h)
     log in_log in_e
 
-only_child : (log : ThreadLog) → HasLog (child_log right ∷ []) log → (P : ThreadLog → Type 0) → P (child_log right) → P log
+only_child : (log : ThreadLog) → Has (child_log right ∷ []) log → (P : ThreadLog → Type 0) → P (child_log right) → P log
 only_child log (inl is) P h = subst P is h
 only_child log (inr more) P h = absurd more
 
@@ -649,8 +649,8 @@ child_family : IsFamily (thread_logs right) (child_log right) (child_log right �
 child_family = record {
   own = inl refl;
   among = λ log h. inr h;
-  closed = λ log e c in_log in_e is. only_child log in_log (λ l. Has l.entries e → (child : ThreadLog) × HasLog (child_log right ∷ []) child × (child.number.0 ≡ c))
-      (λ h. for_child right (λ z. child_of z ≡ Some c → (child : ThreadLog) × HasLog (child_log right ∷ []) child × (child.number.0 ≡ c)) (λ k. absurd (none_is_some c k)) e h is) in_e;
+  closed = λ log e c in_log in_e is. only_child log in_log (λ l. Has l.entries e → (child : ThreadLog) × Has (child_log right ∷ []) child × (child.number.0 ≡ c))
+      (λ h. for_child right (λ z. child_of z ≡ Some c → (child : ThreadLog) × Has (child_log right ∷ []) child × (child.number.0 ≡ c)) (λ k. absurd (none_is_some c k)) e h is) in_e;
 }
 
 child_started : IsStarted (thread_logs right) (child_log right)
@@ -668,7 +668,7 @@ child_started = record {
   later = λ log h. only_child log h (λ l. RisesFrom 3 l.entries × EndAbove 3 l.«end») ((omega arith, tt), tt);
 }
 
-child_joined : (log : ThreadLog) (e : Entry) (c : ThreadNo) → HasLog (thread_logs right) log → Has log.entries e → e.request ≡ request.Join c → IsJoined (thread_logs right) log.entries e c
+child_joined : (log : ThreadLog) (e : Entry) (c : ThreadNo) → Has (thread_logs right) log → Has log.entries e → e.request ≡ request.Join c → IsJoined (thread_logs right) log.entries e c
 child_joined log e c in_log in_e is = for_logs right (λ l. Has l.entries e → IsJoined (thread_logs right) l.entries e c)
     (λ h. for_main right Q (no_join _ c refl) (no_join _ c refl) (no_join _ c refl) (no_join _ c refl) joined e h is)
     (λ h. for_child right (λ z. z.request ≡ request.Join c → IsJoined (thread_logs right) (child_log right).entries z c) (no_join _ c refl) e h is) log in_log in_e

@@ -6,6 +6,7 @@ use Rattle.std.proofs.lemmas.Bool.Decides.{nat_tests}
 use Rattle.bsan_ids.specs.declared.numbers.AllocNo.{AllocNo}
 use Rattle.bsan_ids.specs.declared.numbers.Prov.{Prov}
 use Rattle.bsan_ids.specs.declared.numbers.ThreadNo.{ThreadNo}
+use Rattle.history.specs.Histories.{HasBytes}
 use Rattle.history.specs.declared.ask.Ask.{Ask}
 use Rattle.history.specs.declared.ask.Ask.TheVariants as ask
 use Rattle.history.specs.declared.entry.Entry.{Entry}
@@ -39,13 +40,13 @@ use Rattle.runs.specs.Objects.{objects}
 use Rattle.runs.specs.Parts.{Answers, IsOnNumber, names, child_of, spawned_by, is_child}
 use Rattle.source_runs.proofs.JoinsAccepted.{accepted_programs_join}
 use Rattle.source_sem.specs.Starting.{setting_of, main_of, main_start, ArgsFit}
-use Rattle.source_runs.specs.Setting.{allowed}
+use Rattle.source_sem.specs.Records.{allowed}
 use Rattle.source_sem.specs.Joining.{StartsNoMain, JoinLaw, ThreadStands}
 use Rattle.thread_parts.specs.Words.{number_in}
 use Rattle.thread_parts.specs.Fits.{ReplyFits, JoinFits, ValueFits}
 use Rattle.source_sem.specs.Source.{Setting, Source, frames_type, source, source_ask, source_turn, source_answer, source_child, source_fits}
 use Rattle.source_sem.proofs.JoinSteps.{join_law}
-use Rattle.source_runs.specs.Invariant.{ResultFits, SourceFits, PlainFits, PieceFits, Told, WordLaw}
+use Rattle.source_runs.specs.Invariant.{ResultFits, SourceFits, PlainFits, Told, WordLaw}
 use Rattle.source_runs.specs.Allocations.{ObjectFits, IsOfAllocation, IsMake}
 use Rattle.source_runs.specs.Worlds.{RepliesAlwaysFit, ReplaysLeaveRightRecords}
 use Rattle.source_runs.proofs.Accepting.{program_typed}
@@ -123,7 +124,7 @@ pub record NoChild (e : Entry) : Type 0 where
 pub record Facts (x : Setting) (w : World (source x) objects) (e : Entry) (now : Source) : Type 0 where
   pub fits : source_fits x now e
   pub suits : PlainFits e.reply.plain
-  pub piece : PieceFits e.request
+  pub piece : HasBytes e.request
   pub child : NoChild e ⊎ Child x w e now
 
 no_spawn : (e : Entry) (r : Request) → e.request ≡ r → NoSpawn r → spawned_by r e.reply.plain ≡ None → NoChild e
@@ -209,14 +210,14 @@ module _ (x : Setting) (hosts : HostTable) (A : Allowed) (program : IsProgram x.
         let g = given r h in
         let most : g.0.0 ≤ A.allocs = g.3 in
         let fit = allocation_law.replies g.0 (w.objects g.0.0) e (frames_type x now.frames) (i.allocs g.0.0) (λ m. omega (arith, most, less)) (subst IsOfAllocation (sym h) tt) g.1 g.5 in
-        record { fits = fit.0; suits = fit.1; piece = subst PieceFits (sym h) tt; child = inl (no_spawn e r h tt refl) }
+        record { fits = fit.0; suits = fit.1; piece = subst HasBytes (sym h) tt; child = inl (no_spawn e r h tt refl) }
     by_ask (ask.At b r) asked h =
         let o = on_number x A w e r h.2 (given r h.0) in
         let fit = allocation_law.replies o.alloc (w.objects o.alloc.0) e (frames_type x now.frames) (i.allocs o.alloc.0) (λ m. absurd (o.no_make (subst IsMake h.0 m))) (subst IsOfAllocation (sym h.0) o.of) o.named o.reply in
         record {
           fits = fit.0;
           suits = fit.1;
-          piece = subst PieceFits (sym h.0) ((law w.threads i.kinds).pieces f.code.result.ty now b r f.words asked);
+          piece = subst HasBytes (sym h.0) ((law w.threads i.kinds).pieces f.code.result.ty now b r f.words asked);
           child = inl (no_spawn e r h.0 o.no_spawn o.no_child);
         }
     by_ask (ask.Print v) asked h =
@@ -225,7 +226,7 @@ module _ (x : Setting) (hosts : HostTable) (A : Allowed) (program : IsProgram x.
         record {
           fits = fits_as r h.0 (subst (λ (z : Reply). ReplyFits None (record e { reply = z }) r) (sym q) tt);
           suits = plain_as _ q tt;
-          piece = subst PieceFits (sym h.0) tt;
+          piece = subst HasBytes (sym h.0) tt;
           child = inl (no_spawn e r h.0 tt refl);
         }
     by_ask (ask.Host n a b) asked h =
@@ -236,7 +237,7 @@ module _ (x : Setting) (hosts : HostTable) (A : Allowed) (program : IsProgram x.
         record {
           fits = fits_as r h.0 (subst (λ (z : Reply). ReplyFits None (record e { reply = z }) r) (sym g.2) word);
           suits = plain_as _ g.2 tt;
-          piece = subst PieceFits (sym h.0) tt;
+          piece = subst HasBytes (sym h.0) tt;
           child = inl (no_spawn e r h.0 tt refl);
         }
     by_ask (ask.Spawn m) asked h =
@@ -249,7 +250,7 @@ module _ (x : Setting) (hosts : HostTable) (A : Allowed) (program : IsProgram x.
         record {
           fits = fits_as r h.0 (subst (λ (z : Reply). ReplyFits None (record e { reply = z }) r) (sym g.4) short);
           suits = plain_as _ g.4 tt;
-          piece = subst PieceFits (sym h.0) tt;
+          piece = subst HasBytes (sym h.0) tt;
           child = inr (record {
             function = m;
             number = c.0;
@@ -268,7 +269,7 @@ module _ (x : Setting) (hosts : HostTable) (A : Allowed) (program : IsProgram x.
         record {
           fits = fits_as r h.0 (subst (λ (z : Reply). ReplyFits (frames_type x now.frames) (record e { reply = z }) r) (sym g.3) (joined c asked g.0 g.1 g.2 (frames_type x now.frames) refl, λ t. t));
           suits = plain_as _ g.3 tt;
-          piece = subst PieceFits (sym h.0) tt;
+          piece = subst HasBytes (sym h.0) tt;
           child = inl (no_spawn e r h.0 tt refl);
         }
 

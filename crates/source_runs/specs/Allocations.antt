@@ -1,6 +1,7 @@
 -- What an allocation answers: words of the type that is asked for, since its bytes are bytes.
 use Rattle.std.specs.Prelude.{◌≡◌, ℕ, ◌<◌, ◌^◌, length, Option, Some, None}
 use Rattle.bsan_ids.specs.declared.numbers.AllocNo.{AllocNo}
+use Rattle.history.specs.Histories.{HasBytes}
 use Rattle.history.specs.declared.entry.Entry.{Entry}
 use Rattle.history.specs.declared.entry.Request.{Request}
 use Rattle.history.specs.declared.entry.Request.TheVariants as request
@@ -8,7 +9,7 @@ use Rattle.history.specs.Objects.{Object, Made, unmade, answer}
 use Rattle.ir_ast.specs.Tokens.{Each}
 use Rattle.ir_ast.specs.declared.types.Ty.{Ty}
 use Rattle.thread_parts.specs.Fits.{ReplyFits}
-use Rattle.source_runs.specs.Invariant.{PlainFits, PieceFits}
+use Rattle.source_runs.specs.Invariant.{PlainFits}
 
 -- each byte is below 256 and has a place for a fragment
 abbrev pub MadeFits : Option Made → Type 0
@@ -34,6 +35,6 @@ IsMake other = ⊥
 -- an allocation begins with bytes and keeps them, and what it answers fits what it is asked
 pub record AllocationLaw : Type 0 where
   pub first : (a : ℕ) → ObjectFits a (unmade a)
-  pub next : (a : ℕ) (o : Object) (r : Request) (stamp : ℕ) → ObjectFits a o → PieceFits r → ObjectFits a (answer o r (record { 0 = stamp })).object
+  pub next : (a : ℕ) (o : Object) (r : Request) (stamp : ℕ) → ObjectFits a o → HasBytes r → ObjectFits a (answer o r (record { 0 = stamp })).object
   pub replies : (a : AllocNo) (o : Object) (e : Entry) (ty : Option Ty) → ObjectFits a.0 o → (IsMake e.request → a.0 < 2 ^ 32) → IsOfAllocation e.request → e.alloc ≡ Some a → e.reply ≡ (answer o e.request e.stamp).reply
       → ReplyFits ty e e.request × PlainFits e.reply.plain

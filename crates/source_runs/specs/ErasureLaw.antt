@@ -15,7 +15,7 @@ use Rattle.runs.specs.Threads.{AsksMake, AsksSpawn}
 use Rattle.source_sem.specs.Source.{Setting, Source, source, source_ask, source_start, plain_setting}
 use Rattle.history.specs.declared.record.RunRecord.{RunRecord}
 use Rattle.ir_ast.specs.declared.program.Program.{Program}
-use Rattle.source_runs.specs.Setting.{allowed, IsRightFor, IsRightRecord}
+use Rattle.source_sem.specs.Records.{allowed, IsRightFor, IsRightRecord}
 
 -- after its local turns the plain thread ends as the thread does, and asks a Make or a Spawn where that does
 pub record EndsAlike (x : Setting) (s p : Source) : Type 0 where

@@ -8,7 +8,7 @@ use Rattle.runs.specs.Objects.{objects}
 use Rattle.runs.specs.Right.{IsRight, history_of}
 use Rattle.source_sem.specs.Source.{Setting, source}
 use Rattle.source_sem.specs.Starting.{main_of, main_start}
-use Rattle.source_runs.specs.Setting.{allowed}
+use Rattle.source_sem.specs.Records.{allowed}
 
 -- their stamps rise, they name their number, their requests fit, they make it once, and each reply is its answer
 abbrev pub HistoriesAreLegal : Type 0

@@ -1,5 +1,6 @@
 -- Words of their types: in registers, in what a frame waits for, and in what a thread returns.
 use Rattle.std.specs.Prelude.{◌≡◌, ℕ, ◌<◌, ◌^◌, Bool, true, List, [], ◌∷◌, Option, Some, None, slice_get}
+use Rattle.history.specs.Histories.{HasBytes}
 use Rattle.history.specs.declared.ask.Arg.{Arg}
 use Rattle.history.specs.declared.ask.Ask.TheVariants as ask
 use Rattle.history.specs.declared.ask.MachineEnd.{MachineEnd}
@@ -109,10 +110,6 @@ abbrev pub RegistersFit : Program → (ℕ → ℕ → Type 0) → Frame → Typ
 RegistersFit p K f = (g : Function) × (slice_get p.functions f.function ≡ Some g) × EnvFits p K g f.env
 
 -- what is written is bytes
-abbrev pub PieceFits : Request → Type 0
-PieceFits (request.CopyIn at piece prov) = AreBytes piece
-PieceFits other = Unit {0}
-
 -- a started child runs its function
 abbrev pub Told : (ℕ → ℕ → Type 0) → Request → Plain → Type 0
 Told K (request.Spawn k) p = K k (number_in p)
@@ -131,7 +128,7 @@ pub record WordLaw (x : Setting) (K : ℕ → ℕ → Type 0) : Type 0 where
   pub registers : (last : Option Ty) (s : Source) → SourceFits x.program K last s → Each (RegistersFit x.program K) s.frames
   pub returns : (last : Option Ty) (s : Source) (word : ℕ) (prov : Option Prov) → SourceFits x.program K last s → source_ask x s ≡ ask.Ended (end.Returned word prov) → ResultFits last (record { value = word; prov = prov })
   pub joins : (last : Option Ty) (s : Source) (c : ThreadNo) (ty : Ty) → SourceFits x.program K last s → source_ask x s ≡ ask.Join c → frames_type x s.frames ≡ Some ty → JoinsTyped x.program K (Some ty) c.0
-  pub pieces : (last : Option Ty) (s : Source) (a : AllocNo) (r : Request) → SourceFits x.program K last s → source_ask x s ≡ ask.At a r → PieceFits r
+  pub pieces : (last : Option Ty) (s : Source) (a : AllocNo) (r : Request) → SourceFits x.program K last s → source_ask x s ≡ ask.At a r → HasBytes r
   pub hosts : (last : Option Ty) (s : Source) (n a b : ℕ) → SourceFits x.program K last s → source_ask x s ≡ ask.Host n a b → (a < 2 ^ 64) × (b < 2 ^ 64)
 
 -- thread 0 counts as a thread of each function, since a handle without a value reads as 0; and numbers of threads have 32 bits

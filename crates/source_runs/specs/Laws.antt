@@ -9,17 +9,18 @@ use Rattle.ir_ast.specs.declared.program.Program.{Program}
 use Rattle.history.specs.declared.log.AllocLog.{AllocLog}
 use Rattle.history.specs.declared.log.ThreadLog.{ThreadLog}
 use Rattle.history.specs.declared.record.RunRecord.{RunRecord}
+use Rattle.runs.specs.Parts.{Has}
 use Rattle.runs.specs.Interleaving.{World, Interleaves}
 use Rattle.runs.specs.Objects.{objects}
 use Rattle.runs.specs.Replay.{Progress, IsReplay}
 use Rattle.runs.specs.ReplayLaw.{first_progress, record_of, FitsAlways}
-use Rattle.runs.specs.Right.{HasLog, HasRuns, NumbersRiseFrom, IsRight}
+use Rattle.runs.specs.Right.{HasRuns, NumbersRiseFrom, IsRight}
 use Rattle.runs.specs.Theorem.{LogsMakeOneRun, PromisesMakeOneRun}
 use Rattle.runs.specs.Tree.{numbers_of, IsWholeRun}
 use Rattle.runs.specs.Threads.{StandsOnce}
 use Rattle.source_sem.specs.Source.{Setting, Source, source}
 use Rattle.source_sem.specs.Starting.{setting_of, main_of, main_start}
-use Rattle.source_runs.specs.Setting.{allowed, IsRightRecord}
+use Rattle.source_sem.specs.Records.{allowed, IsRightRecord}
 
 -- entries whose parts are runs of the threads and legal histories of the allocations are one run
 abbrev pub LogsAreOneRun : Type 0
@@ -60,4 +61,4 @@ ThreadsDiffer =
 -- a thread's last state is told by its log and its count of instructions, and its first state by the chain of Spawn entries
 pub record LogsTellStates : Type 0 where
   pub last : (x : Setting) (limit : ℕ) (starts : ℕ → Source) → StandsOnce (source x) limit starts
-  pub first : (x : Setting) (limits : Limits) (main : Source) (logs : List ThreadLog) (r q : HasRuns (source x) limits main logs) (log : ThreadLog) → HasLog logs log → r.starts log.number.0 ≡ q.starts log.number.0
+  pub first : (x : Setting) (limits : Limits) (main : Source) (logs : List ThreadLog) (r q : HasRuns (source x) limits main logs) (log : ThreadLog) → Has logs log → r.starts log.number.0 ≡ q.starts log.number.0

@@ -1,4 +1,3 @@
-pub mod Setting
 pub mod Laws
 pub mod TwoThreads
 pub mod ErasureLaw

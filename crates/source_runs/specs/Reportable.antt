@@ -5,7 +5,7 @@ use Rattle.ir_ast.specs.declared.hosts.HostTable.{HostTable}
 use Rattle.ir_ast.specs.declared.program.Program.{Program}
 use Rattle.report.specs.Report.{IsReportable}
 use Rattle.history.specs.declared.record.RunRecord.{RunRecord}
-use Rattle.source_runs.specs.Setting.{IsRightFor}
+use Rattle.source_sem.specs.Records.{IsRightFor}
 
 -- no stamp stands twice in it, and each violation can be described
 abbrev pub RightRecordsAreReportable : Type 0

@@ -6,7 +6,6 @@ use Rattle.perm_table.specs.declared.Guard.TheVariants.{Free, Strong}
 use Rattle.perm_table.specs.declared.Perm.TheVariants.{Disabled}
 use Rattle.perm_table.specs.declared.RetagKind.TheVariants.{Mut}
 use Rattle.eager_tree.specs.declared.violation.Violation.TheVariants.{Denied}
-use Rattle.ir_ast.specs.declared.hosts.HostTable.{HostTable}
 use Rattle.ir_ast.specs.declared.types.Place.TheVariants.{Stack}
 use Rattle.ir_ast.specs.declared.types.Ty.TheVariants.{Int}
 use Rattle.ir_ast.specs.declared.types.Width.TheVariants.{W64}
@@ -23,13 +22,10 @@ use Rattle.runs.specs.Objects.{objects}
 use Rattle.runs.specs.PlainObjects.{plain_objects}
 use Rattle.source_sem.specs.Source.{Setting, Source, source, source_start, plain_setting}
 use Rattle.source_sem.specs.Traces.{sibling, alloc, tag, prov}
-use Rattle.source_runs.specs.Setting.{allowed}
+use Rattle.source_sem.specs.Records.{no_hosts, allowed}
 
 abbrev pub limits : Limits
 limits = record { steps = 1000; turns = 1000; allocs = 100 }
-
-abbrev pub no_hosts : HostTable
-no_hosts = record { entries = [] }
 
 -- a step of thread 0 on allocation 1
 abbrev pub step : ℕ → ℕ → Request → Plain → Option Prov → Verdict → Entry

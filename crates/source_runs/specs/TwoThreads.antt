@@ -1,5 +1,5 @@
 -- A whole record of two threads and two allocations, and records that each break one promise alone.
-use Rattle.std.specs.Prelude.{◌≡◌, ◌≢◌, ℕ, ◌<◌, ◌≤◌, ◌⊎◌, Bool, true, false, List, [], ◌∷◌, length, Option, Some, None}
+use Rattle.std.specs.Prelude.{codes, ◌≡◌, ◌≢◌, ℕ, ◌<◌, ◌≤◌, ◌⊎◌, Bool, true, false, List, [], ◌∷◌, length, Option, Some, None}
 use Rattle.bsan_ids.specs.declared.numbers.AllocNo.{AllocNo}
 use Rattle.bsan_ids.specs.declared.numbers.Limits.{Limits}
 use Rattle.bsan_ids.specs.declared.numbers.Prov.{Prov}
@@ -11,7 +11,6 @@ use Rattle.history.specs.declared.entry.Request.{Request}
 use Rattle.history.specs.declared.entry.Request.TheVariants as request
 use Rattle.history.specs.declared.entry.Verdict.{Verdict}
 use Rattle.history.specs.declared.entry.Verdict.TheVariants as verdict
-use Rattle.ir_ast.specs.declared.hosts.HostTable.{HostTable}
 use Rattle.ir_ast.specs.declared.program.Function.{Function}
 use Rattle.ir_ast.specs.declared.program.Op.TheVariants as op
 use Rattle.ir_ast.specs.declared.program.Program.{Program}
@@ -27,16 +26,16 @@ use Rattle.runs.specs.Interleaving.{Legal}
 use Rattle.runs.specs.Merge.{merged, MayMerge, entries_of}
 use Rattle.runs.specs.Objects.{objects}
 use Rattle.history.specs.Objects.{clean}
-use Rattle.runs.specs.Parts.{of_thread, of_alloc, child_of}
-use Rattle.runs.specs.Right.{HasLog, HasThreads, MergesToRun, AllocsRiseFrom, history_of, end_of}
-use Rattle.runs.specs.Stamps.{Has, RisesFrom}
+use Rattle.runs.specs.Parts.{Has, of_thread, of_alloc, child_of}
+use Rattle.runs.specs.Right.{HasThreads, MergesToRun, AllocsRiseFrom, history_of, end_of}
+use Rattle.runs.specs.Stamps.{RisesFrom}
 use Rattle.runs.specs.Theorem.{HasPromises}
 use Rattle.runs.specs.Threads.{IsThreadRun}
 use Rattle.runs.specs.Tree.{IsEntryRight, IsWholeRun}
 use Rattle.source_sem.specs.Source.{Source, Setting, source}
 use Rattle.source_sem.specs.Traces.{named, no_result, gives, ptr_param, reg, number, def, does, block, function, ret_void, ret_of, prov, alloc}
-use Rattle.source_sem.specs.Starting.{setting_of, main_name, main_of, main_start}
-use Rattle.source_runs.specs.Setting.{allowed, IsRightFor}
+use Rattle.source_sem.specs.Starting.{setting_of, main_of, main_start}
+use Rattle.source_sem.specs.Records.{no_hosts, allowed, IsRightFor}
 
 -- func @f(ptr %x) -> void: 0 store i64 1, %x   1 ret void
 abbrev pub f : Function
@@ -45,7 +44,7 @@ f = function (102 ∷ []) (ptr_param 120 ∷ []) no_result (block 101 [] (does (
 -- func @main() -> i64: 2 %x = malloc 8   3 %y = malloc 8   4 %h = spawn @f(ptr %x)   5 store i64 2, %y   6 ret i64 0
 abbrev pub main : Function
 main =
-    function main_name [] (gives (Int W64))
+    function (codes "main") [] (gives (Int W64))
     (block 101 []
     (def 120 (op.Make Heap (Num 8))
     ∷ def 121 (op.Make Heap (Num 8))
@@ -56,9 +55,6 @@ main =
 
 abbrev pub program : Program
 program = record { version = 1; functions = f ∷ main ∷ []; end = 0 }
-
-abbrev pub no_hosts : HostTable
-no_hosts = record { entries = [] }
 
 abbrev pub limits : Limits
 limits = record { steps = 1000; turns = 1000; allocs = 100 }
@@ -138,7 +134,7 @@ right = record { spawn = 3; store = 4; child = 5; join = 6; joined = 0; verdict 
 abbrev pub early : Told
 early = record { spawn = 4; store = 5; child = 3; join = 6; joined = 0; verdict = verdict.Clean }
 
--- it stands behind the join
+-- it comes after the join
 abbrev pub late : Told
 late = record { spawn = 3; store = 4; child = 6; join = 5; joined = 0; verdict = verdict.Clean }
 
@@ -169,20 +165,20 @@ IsOneRun logs = MergesToRun (source x) objects (allowed limits no_hosts) limits 
 -- the promises one by one -------------------------------------------------------
 
 abbrev pub AfterSpawn : List ThreadLog → Type 0
-AfterSpawn logs = (a b : ThreadLog) (s y : Entry) → HasLog logs a → HasLog logs b → Has a.entries s → Has b.entries y → child_of s ≡ Some b.number.0 → s.stamp.0 < y.stamp.0
+AfterSpawn logs = (a b : ThreadLog) (s y : Entry) → Has logs a → Has logs b → Has a.entries s → Has b.entries y → child_of s ≡ Some b.number.0 → s.stamp.0 < y.stamp.0
 
 abbrev pub BeforeJoin : List ThreadLog → Type 0
-BeforeJoin logs = (a b : ThreadLog) (j y : Entry) → HasLog logs a → HasLog logs b → Has a.entries j → Has b.entries y → j.request ≡ request.Join b.number → y.stamp.0 < j.stamp.0
+BeforeJoin logs = (a b : ThreadLog) (j y : Entry) → Has logs a → Has logs b → Has a.entries j → Has b.entries y → j.request ≡ request.Join b.number → y.stamp.0 < j.stamp.0
 
 abbrev pub SpawnBeforeJoin : List ThreadLog → Type 0
 SpawnBeforeJoin logs =
-    (a b : ThreadLog) (s j : Entry) (c : ThreadNo) → HasLog logs a → HasLog logs b → Has a.entries s → Has b.entries j
+    (a b : ThreadLog) (s j : Entry) (c : ThreadNo) → Has logs a → Has logs b → Has a.entries s → Has b.entries j
     → child_of s ≡ Some c.0 → j.request ≡ request.Join c → s.stamp.0 < j.stamp.0
 
 abbrev pub JoinsGiveResults : List ThreadLog → Type 0
 JoinsGiveResults logs =
-    (log : ThreadLog) (e : Entry) (c : ThreadNo) → HasLog logs log → Has log.entries e → e.request ≡ request.Join c
-    → (v : ℕ) × (e.reply.plain ≡ plain.Value v) × (end_of logs c.0 ≡ log_end.Returned v e.reply.carried) × ((child : ThreadLog) × HasLog logs child × (child.number ≡ c))
+    (log : ThreadLog) (e : Entry) (c : ThreadNo) → Has logs log → Has log.entries e → e.request ≡ request.Join c
+    → (v : ℕ) × (e.reply.plain ≡ plain.Value v) × (end_of logs c.0 ≡ log_end.Returned v e.reply.carried) × ((child : ThreadLog) × Has logs child × (child.number ≡ c))
 
 abbrev pub HasParts : List ThreadLog → List AllocLog → Type 0
 HasParts logs allocs = (a t : ℕ) → 0 < a → a ≤ limits.allocs → of_thread t (history_of allocs a) ≡ of_alloc a (entries_of logs t)
@@ -212,20 +208,20 @@ pub record BreaksAlone (broken : Promise) (logs : List ThreadLog) (allocs : List
   pub threads : HasThreads (main_of program) logs
   pub starts : ℕ → Source
   pub first : starts 0 ≡ start
-  pub runs : (log : ThreadLog) → HasLog logs log → IsThreadRun (source x) limits starts log
+  pub runs : (log : ThreadLog) → Has logs log → IsThreadRun (source x) limits starts log
   pub joined : Kept (same broken JoinedValue) (JoinsGiveResults logs)
-  pub ended : (log : ThreadLog) (c : ThreadNo) → HasLog logs log → log.«end» ≡ log_end.ChildEnded c
-      → ((child : ThreadLog) × HasLog logs child × (child.number ≡ c)) × ((v : ℕ) (p : Option Prov) → end_of logs c.0 ≢ log_end.Returned v p)
+  pub ended : (log : ThreadLog) (c : ThreadNo) → Has logs log → log.«end» ≡ log_end.ChildEnded c
+      → ((child : ThreadLog) × Has logs child × (child.number ≡ c)) × ((v : ℕ) (p : Option Prov) → end_of logs c.0 ≢ log_end.Returned v p)
   pub numbers : AllocsRiseFrom 0 limits.allocs allocs
   pub histories_rise : (a : ℕ) → RisesFrom 0 (history_of allocs a)
   pub legal : (a : ℕ) → Legal objects (objects.unmade a) (history_of allocs a)
   pub parts : Kept (same broken Restriction) (HasParts logs allocs)
-  pub rises : (log : ThreadLog) → HasLog logs log → RisesFrom 0 log.entries
+  pub rises : (log : ThreadLog) → Has logs log → RisesFrom 0 log.entries
   pub after_spawn : Kept (same broken Spawning) (AfterSpawn logs)
   pub before_join : Kept (same broken Joining) (BeforeJoin logs)
   pub spawned_before_join : SpawnBeforeJoin logs
   pub merges : Kept (same broken OneStamp) (MayMerge logs)
-  pub entries : (log : ThreadLog) (e : Entry) → HasLog logs log → Has log.entries e → IsEntryRight (allowed limits no_hosts) e e.request
+  pub entries : (log : ThreadLog) (e : Entry) → Has logs log → Has log.entries e → IsEntryRight (allowed limits no_hosts) e e.request
   pub stamps : (e : Entry) → Has (merged logs) e → e.stamp.0 ≤ length (merged logs)
   pub within : length (merged logs) ≤ limits.steps
   pub unslotted : (a : ℕ) → ((0 < a) × (a ≤ limits.allocs)) ⊎ Legal objects (objects.unmade a) (of_alloc a (merged logs))

@@ -11,7 +11,7 @@ use Rattle.runs.specs.ReplayLaw.{first_progress, record_of, FitsAlways}
 use Rattle.runs.specs.Replay.{Progress, IsReplay}
 use Rattle.source_sem.specs.Source.{Setting, source}
 use Rattle.source_sem.specs.Starting.{setting_of, main_of, main_start}
-use Rattle.source_runs.specs.Setting.{allowed, IsRightRecord}
+use Rattle.source_sem.specs.Records.{allowed, IsRightRecord}
 
 -- the program's threads, its allocations and these host functions
 abbrev pub RepliesAlwaysFit : Type 0

@@ -74,8 +74,9 @@ pub fn right_records_are_reportable()
     ensures { RightRecordsAreReportable }
 {}
 
-/// Worked replays: a load before and behind a write through a retagged pointer, by two schedules;
-/// and a thread that ends with its last step, so that its joiner goes on in its next pick.
+/// Worked replays, with their steps, the numbers that they draw and the ends of their threads: a load before and after a
+/// write through a retagged pointer, by two schedules; a thread that ends with its last step, so that its joiner goes on in
+/// its next pick; a step limit at a spawn, whose drawn number stays drawn; and the join of a child that ended early.
 pub fn replays_by_example()
     ensures { ReplaysByExample }
 {}

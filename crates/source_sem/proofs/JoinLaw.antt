@@ -1,6 +1,6 @@
 -- In every state that a thread of an accepted program can reach, a join asks for a child that it has started.
-use Rattle.std.proofs.Common.{◌≡◌, ℕ, zero, suc, ◌<◌, ◌%◌, ◌^◌, List, [], ◌∷◌, ◌++◌, length, Option, Some, None, Bool, true, false, refl, sym, ap, ◌∙◌, subst, if◌then◌else◌, slice_get, inl, inr, arith}
-use Rattle.std.specs.Str.{bytes_eq}
+use Rattle.std.proofs.Common.{◌≡◌, ℕ, zero, suc, ◌<◌, ◌%◌, ◌^◌, List, [], ◌∷◌, ◌++◌, length, map, Option, Some, None, Bool, true, false, refl, sym, ap, ◌∙◌, subst, if◌then◌else◌, slice_get, inl, inr, arith}
+use Rattle.std.specs.Prelude.{Contains}
 use Rattle.history.specs.declared.ask.Arg.{Arg}
 use Rattle.history.specs.declared.ask.Ask.TheVariants as ask
 use Rattle.history.specs.declared.ask.MachineEnd.TheVariants as end
@@ -31,7 +31,13 @@ use Rattle.history.specs.declared.trap.Trap.TheVariants as trap
 use Rattle.ir_ast.specs.declared.program.Val.{Val}
 use Rattle.source_sem.proofs.Mirroring.{fr, step_steps}
 use Rattle.source_sem.specs.Plain.{IsWaiting}
-use Rattle.source_sem.specs.Joining.{params_define, GoesTo, IsGoal, AllParams, Enters, CallersStand, ThreadStands, StandsAt, IsSpawnOp, Has, Holds, GivesValue, FunctionJoins, JoinsAccepted, Site, Placed, Waits, Retagged, DoingStands}
+use Rattle.ir_ast.specs.Shapes.{Defines}
+use Rattle.ir_ast.specs.Tokens.{Each}
+use Rattle.ir_rules.specs.Occurrences.{param_event, jump_goals}
+use Rattle.ir_rules.specs.Paths.{GoesTo}
+use Rattle.runs.specs.Parts.{Has}
+use Rattle.source_sem.specs.Joining.{IsHeld, Enters, CallersStand, ThreadStands, StandsAt, IsSpawnOp, HasHandles, FunctionJoins, JoinsAccepted, Site, Placed, Waits, Retagged, DoingStands}
+use Rattle.source_sem.proofs.Events.{entry_held, goes_to}
 use Rattle.source_sem.proofs.Joins.{holds_put, holds_pass, holds_goto, holds_entry}
 
 -- which parts give a value
@@ -71,7 +77,7 @@ worked_gives (word n) = tt
 worked_gives div_zero = tt
 worked_gives shift_too_far = tt
 
-op_gives : (x : Setting) (k d : ℕ) (env : Env) (o : Op) → GivesValue o → PartGives (op_part x k d env o)
+op_gives : (x : Setting) (k d : ℕ) (env : Env) (o : Op) → Defines o → PartGives (op_part x k d env o)
 op_gives x k d env (op.Make place size) h = make_gives _ place _
 op_gives x k d env (op.Retag kind p n) h = retag_gives _ _ kind n
 op_gives x k d env (op.Binary o w a b) h = worked_gives (worked o _ _ _)
@@ -124,7 +130,7 @@ module _ (P : Program) (acc : JoinsAccepted P) where
     owned = own;
   }
     where
-      none_put : (v : Option Arg) → Holds at.code at.b at.block (done ++ i ∷ []) (put_some None v env) started
+      none_put : (v : Option Arg) → HasHandles at.code at.b at.block (done ++ i ∷ []) (put_some None v env) started
       none_put None = holds_pass at.code at.b at.block started done i env e p.holds
       none_put (Some w) = holds_pass at.code at.b at.block started done i env e p.holds
   next_some started k at env o o2 done is j i (Some n) (Some v) e gives child own p =
@@ -133,7 +139,7 @@ module _ (P : Program) (acc : JoinsAccepted P) where
         insts = p.insts ∙ append_more done i is;
         term = p.term;
         owned = own;
-        holds = holds_put at.code at.b at.block started (acc k at.code at.is_code).joins done is i n env v here e (child v refl) p.holds;
+        holds = holds_put at.code at.b at.block started (acc k at.code at.is_code) done is i n env v here e (child v refl) p.holds;
       }
   next_some started k at env o o2 done is j i (Some n) None e gives child own p = none_some (gives n refl)
 
@@ -188,7 +194,7 @@ module _ (P : Program) (acc : JoinsAccepted P) where
   lost_stands t k n env o fs kids callers = record { frames = (inl (record { insts = refl; term = refl; doing = refl }), callers); kids = kids }
 
   block_stands : (t : Source) (k : ℕ) (at : Site P k) (is : List Inst) (j : Jump) (n : ℕ) (env : Env) (o : Owned) (d : Doing) (fs : List Frame) (c : ℕ) (b : Option Block) (m : ℕ) (vs : List Arg)
-      → ((c : ℕ) → Has t.started c → (0 < c) × (c < 2 ^ 32)) → CallersStand P t.started fs → slice_get at.code.blocks c ≡ b → GoesTo at.code at.b c → Holds at.code at.b at.block at.block.insts env t.started → ((c : ℕ) → Has o.children c → Has t.started c)
+      → ((c : ℕ) → Has t.started c → (0 < c) × (c < 2 ^ 32)) → CallersStand P t.started fs → slice_get at.code.blocks c ≡ b → ((to : Block) → slice_get at.code.blocks c ≡ Some to → GoesTo at.code at.b c) → HasHandles at.code at.b at.block at.block.insts env t.started → ((c : ℕ) → Has o.children c → Has t.started c)
       → ThreadStands P (at_frames t (in_block (fr k is j n env o d) b m vs ∷ fs))
   block_stands t k at is j n env o d fs c None m vs kids callers e goes holds own = lost_stands t k m env o fs kids callers
   block_stands t k at is j n env o d fs c (Some to) m vs kids callers e goes holds own =
@@ -197,34 +203,25 @@ module _ (P : Program) (acc : JoinsAccepted P) where
         insts = refl;
         term = refl;
         owned = own;
-        holds = holds_goto at.code (acc k at.code at.is_code).joins at.b c at.block to t.started env vs at.is_block e goes holds;
+        holds = holds_goto at.code (acc k at.code at.is_code).joins at.b c at.block to t.started env vs at.is_block e (goes to e) holds;
       } in
       record { frames = (inr (there, [], placed), callers); kids = kids }
 
   pub entering_stands : (t : Source) (k : ℕ) (at : Site P k) (is : List Inst) (j : Jump) (n : ℕ) (env : Env) (o : Owned) (done : List Inst) (fs : List Frame) (qs : List Param)
-      → ((c : ℕ) → Has t.started c → (0 < c) × (c < 2 ^ 32)) → CallersStand P t.started fs → Placed P t.started k at env o done is j → AllParams qs at.code.params
+      → ((c : ℕ) → Has t.started c → (0 < c) × (c < 2 ^ 32)) → CallersStand P t.started fs → Placed P t.started k at env o done is j → Each (IsHeld at.code) (map param_event qs)
       → ThreadStands P (at_frames t (fr k is j n env o (entering qs) ∷ fs))
   entering_stands t k at is j n env o done fs [] kids callers placed all = record { frames = (inr (at, done, placed), callers); kids = kids }
   entering_stands t k at is j n env o done fs (q ∷ qs) kids callers placed all =
-      let enters : Enters P t.started k is j env o (q ∷ qs) = record { at = at; done = done; placed = placed; all = all } in
+      let enters : Enters P t.started k is j env o (q ∷ qs) = record { at = at; done = done; placed = placed; params = all } in
       record { frames = (inr enters, callers); kids = kids }
 
-first_true : (b c : Bool) → b ≡ true → (if b then true else c) ≡ true
-first_true true c e = refl
-first_true false c e = cc
-
-second_true : (b c : Bool) → c ≡ true → (if b then true else c) ≡ true
-second_true true c e = refl
-second_true false c e = e
-
-all_params : (b : Bool) (ps all : List Param) → ((r : List ℕ) → params_define ps r ≡ true → params_define all r ≡ true) → AllParams (to_retag b ps) all
-all_params b [] all sub = tt
-all_params b (p ∷ ps) all sub =
-    by_step (has_step b p.attr) (to_retag b ps) (all_params b ps all (λ r h. sub r (second_true (bytes_eq p.reg.name r) (params_define ps r) h)))
+retag_held : (g : Function) (b : Bool) (ps : List Param) → Each (IsHeld g) (map param_event ps) → Each (IsHeld g) (map param_event (to_retag b ps))
+retag_held g b [] all = tt
+retag_held g b (p ∷ ps) all = by_step (has_step b p.attr) (to_retag b ps) (retag_held g b ps all.1)
   where
-    by_step : (c : Bool) (qs : List Param) → AllParams qs all → AllParams (if c then p ∷ qs else qs) all
+    by_step : (c : Bool) (qs : List Param) → Each (IsHeld g) (map param_event qs) → Each (IsHeld g) (map param_event (if c then p ∷ qs else qs))
     by_step false qs h = h
-    by_step true qs h = ((λ r e. sub r (first_true (bytes_eq p.reg.name r) (params_define ps r) e)), h)
+    by_step true qs h = (all.0, h)
 
 nothing_has : (started : List ℕ) (c : ℕ) → Has [] c → Has started c
 nothing_has started c h = absurd h
@@ -247,7 +244,7 @@ module _ (x : Setting) (acc : JoinsAccepted x.program) where
         holds = holds_entry g fits.joins fits.begins t.started vs fits.begins_is;
       } in
       subst (λ z. ThreadStands x.program (at_frames t (fr k (first_insts z) (first_term z) (number_of_function 0 x.program.functions k) (bind g.params vs []) nothing_owned (entering (to_retag x.tracked g.params)) ∷ fs))) (sym fits.begins_is)
-      (entering_stands x.program acc t k at fits.begins.insts fits.begins.term.jump (number_of_function 0 x.program.functions k) (bind g.params vs []) nothing_owned [] fs (to_retag x.tracked g.params) kids callers placed (all_params x.tracked g.params g.params (λ r h. h)))
+      (entering_stands x.program acc t k at fits.begins.insts fits.begins.term.jump (number_of_function 0 x.program.functions k) (bind g.params vs []) nothing_owned [] fs (to_retag x.tracked g.params) kids callers placed (retag_held g x.tracked g.params (entry_held g fits.joins.events)))
 
   pub start_stands : (k : ℕ) (vs : List Arg) → ThreadStands x.program (source_start x k vs)
   start_stands k vs = frame_stands (source_start x k vs) k (slice_get x.program.functions k) vs [] (λ c h. absurd h) tt refl
@@ -255,21 +252,22 @@ module _ (x : Setting) (acc : JoinsAccepted x.program) where
   -- local turns
 
   goal_stands : (t : Source) (k : ℕ) (at : Site x.program k) (j : Jump) (n : ℕ) (env : Env) (o : Owned) (done : List Inst) (fs : List Frame) (goal : Goal) → ((c : ℕ) → Has t.started c → (0 < c) × (c < 2 ^ 32)) → CallersStand x.program t.started fs
-      → Placed x.program t.started k at env o done [] j → IsGoal j goal → ThreadStands x.program (at_frames t (goto x (fr k [] j n env o Ready) goal ∷ fs))
+      → Placed x.program t.started k at env o done [] j → Contains (jump_goals j) goal → ThreadStands x.program (at_frames t (goto x (fr k [] j n env o Ready) goal ∷ fs))
   goal_stands t k at j n env o done fs goal kids callers p is =
       let whole : done ≡ at.block.insts = sym (p.insts ∙ append_nil done) in
-      let holds : Holds at.code at.b at.block at.block.insts env t.started = subst (λ z. Holds at.code at.b at.block z env t.started) whole p.holds in
-      let goes : GoesTo at.code at.b (block_place at.code.blocks goal.label.name) = record { block = at.block; is_block = at.is_block; goal = goal; is_goal = subst (λ z. IsGoal z goal) p.term is; to = refl } in
+      let holds : HasHandles at.code at.b at.block at.block.insts env t.started = subst (λ z. HasHandles at.code at.b at.block z env t.started) whole p.holds in
+      let goes : (to : Block) → slice_get at.code.blocks (block_place at.code.blocks goal.label.name) ≡ Some to → GoesTo at.code at.b (block_place at.code.blocks goal.label.name) =
+      λ to there. goes_to at.code at.b at.block to goal at.is_block (subst (λ z. Contains (jump_goals z) goal) p.term is) there in
       subst (λ z. ThreadStands x.program (at_frames t (goto_in x (fr k [] j n env o Ready) z goal ∷ fs))) (sym at.is_code)
       (block_stands x.program acc t k at [] j n env o Ready fs (block_place at.code.blocks goal.label.name) (slice_get at.code.blocks (block_place at.code.blocks goal.label.name)) (number_of_block (number_of_function 0 x.program.functions k) at.code.blocks (block_place at.code.blocks goal.label.name)) (args_of env goal.args) kids callers refl goes holds p.owned)
 
-  chosen_goal : (m : ℕ) (v : Val) (g h : Goal) → IsGoal (jump.CondBr v g h) (chosen m g h)
-  chosen_goal zero v g h = inr refl
-  chosen_goal (suc m) v g h = inl refl
+  chosen_goal : (m : ℕ) (v : Val) (g h : Goal) → Contains (jump_goals (jump.CondBr v g h)) (chosen m g h)
+  chosen_goal zero v g h = (1, omega arith, refl)
+  chosen_goal (suc m) v g h = (0, omega arith, refl)
 
   term_turns : (t : Source) (k : ℕ) (at : Site x.program k) (j : Jump) (n : ℕ) (env : Env) (o : Owned) (done : List Inst) (fs : List Frame) → ((c : ℕ) → Has t.started c → (0 < c) × (c < 2 ^ 32)) → CallersStand x.program t.started fs
       → Placed x.program t.started k at env o done [] j → term_ask (fr k [] j n env o Ready) j ≡ ask.Turn → ThreadStands x.program (term_turn x t (fr k [] j n env o Ready) fs j)
-  term_turns t k at (jump.Br goal) n env o done fs kids callers p h = goal_stands t k at (jump.Br goal) n env o done fs goal kids callers p refl
+  term_turns t k at (jump.Br goal) n env o done fs kids callers p h = goal_stands t k at (jump.Br goal) n env o done fs goal kids callers p (0, omega arith, refl)
   term_turns t k at (jump.CondBr v g g2) n env o done fs kids callers p h = goal_stands t k at (jump.CondBr v g g2) n env o done fs (chosen (operand env v).value g g2) kids callers p (chosen_goal (operand env v).value v g g2)
   term_turns t k at (jump.Ret u a) n env o done fs kids callers p h = return_stands x.program acc x.tracked t (fr k [] (jump.Ret u a) n env o Ready) fs (returned_value env u) kids callers
   term_turns t k at jump.Unreachable n env o done fs kids callers p h = absurd (let e : ask.Ended (end.Trapped trap.Unreachable) ≡ ask.Turn = h in cc)

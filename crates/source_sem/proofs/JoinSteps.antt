@@ -37,9 +37,13 @@ use Rattle.thread_parts.specs.Fits.{SpawnedChild, ReplyFits}
 use Rattle.source_sem.specs.Source.{ready_turn, term_ask, ready_ask, returned_value, at_frames, counted, part_child, insts_child, frames_child, Setting, Source, Frame, Doing, Ready, Entering, Copying, Waiting, Retagging, Leaving, op_part, result_step, joined, entry_ask, frames_type, nowhere, leave_with, copy_on, part_answer, term_answer, ready_answer, copying_part, copying_answer, entered, doing_answer, frames_answer, doing_ask, frames_ask, release_or, copying_ask, copying_by, frames_turn, counted_if, frames_begin, is_ready}
 use Rattle.source_sem.proofs.Mirroring.{fr, entering_steps, copying_steps, release_steps}
 use Rattle.source_sem.specs.Plain.{IsWaiting}
-use Rattle.source_sem.specs.Joining.{StartsNoMain, Enters, IsLost, CallersStand, FramesStand, ThreadStands, JoinLaw, dest_defines, IsSpawnOp, Has, Holds, FunctionJoins, JoinsAccepted, Site, Placed, Waits, Retagged, DoingStands, is_bound}
+use Rattle.source_sem.specs.Joining.{StartsNoMain, Enters, IsLost, CallersStand, FramesStand, ThreadStands, JoinLaw, IsSpawnOp, HasHandles, FunctionJoins, JoinsAccepted, Site, Placed, Waits, Retagged, DoingStands, is_bound}
+use Rattle.std.specs.Cmp.Lexicographic.{bytes_decides}
+use Rattle.ir_rules.specs.Occurrences.{function_events}
+use Rattle.ir_rules.specs.Rules.{held}
+use Rattle.source_sem.proofs.Events.{inst_held, spawn_alone, params_apart}
 use Rattle.source_sem.proofs.Joins.{join_asks, holds_more, or_false}
-use Rattle.runs.specs.Parts.{Answers, spawned_of, spawned_by}
+use Rattle.runs.specs.Parts.{Has, Answers, spawned_of, spawned_by}
 use Rattle.perm_table.specs.declared.Guard.TheVariants.{Free}
 use Rattle.ir_ast.specs.declared.types.Place.TheVariants.{Stack, Heap}
 use Rattle.history.specs.Pieces.{Byte}
@@ -104,9 +108,6 @@ made_has Stack m o c h = h
 kept_child : (started : List ℕ) (b : Bool) (env : Env) (q : List ℕ) (w : Arg) → (b ≡ true → ⊥) → (is_bound env q ≡ true → Has started (value_in env q).value) → (if b then true else is_bound env q) ≡ true → Has started (if b then w else value_in env q).value
 kept_child started true env q w never old h = absurd (never refl)
 kept_child started false env q w never old h = old h
-
-clash : {b : Bool} → b ≡ true → b ≡ false → ⊥
-clash h g = let e : true ≡ false = sym h ∙ g in cc
 
 protect_has : (p : Plain) (r : Option Prov) (o : Owned) (c : ℕ) → Has (protect p r o).children c → Has o.children c
 protect_has (plain.Retagged true) (Some q) o c h = h
@@ -224,13 +225,12 @@ module _ (x : Setting) (acc : JoinsAccepted x.program) where
   entered_stands : (t : Source) (k : ℕ) (is : List Inst) (j : Jump) (n : ℕ) (env : Env) (o : Owned) (fs : List Frame) (p : Param) (ps : List Param) (r : Reply) → ((c : ℕ) → Has t.started c → (0 < c) × (c < 2 ^ 32)) → CallersStand x.program t.started fs
       → Enters x.program t.started k is j env o (p ∷ ps) → ThreadStands x.program (at_frames t (entered (fr k is j n env o (Entering (p ∷ ps))) p ps r ∷ fs))
   entered_stands t k is j n env o fs p ps r kids callers h =
-      let fits : FunctionJoins h.at.code = acc k h.at.code h.at.is_code in
       let w : Arg = record { value = (value_in env p.reg.name).value; prov = r.carried } in
-      let holds : Holds h.at.code h.at.b h.at.block h.done (with_value p.reg.name w env) t.started = record {
+      let holds : HasHandles h.at.code h.at.b h.at.block h.done (with_value p.reg.name w env) t.started = record {
         missed = λ q e. h.placed.holds.missed q (or_false (bytes_eq p.reg.name q) (is_bound env q) (sym (is_bound-with_value env p.reg.name w q) ∙ e)).1;
-        children = λ q handle e.
+        children = λ q f handle e.
             subst (λ z. Has t.started z.value) (sym (value_in-with_value env p.reg.name w q))
-            (kept_child t.started (bytes_eq p.reg.name q) env q w (λ same. clash (h.all.0 q same) (fits.joins.params q handle)) (h.placed.holds.children q handle) (sym (is_bound-with_value env p.reg.name w q) ∙ e));
+            (kept_child t.started (bytes_eq p.reg.name q) env q w (λ same. (params_apart h.at.code q f (p ∷ ps) h.params handle).0 ((bytes_decides p.reg.name q).0 same)) (h.placed.holds.children q f handle) (sym (is_bound-with_value env p.reg.name w q) ∙ e));
       } in
       let placed : Placed x.program t.started k h.at (with_value p.reg.name w env) (protect r.plain r.carried o) h.done is j = record {
         insts = h.placed.insts;
@@ -238,18 +238,20 @@ module _ (x : Setting) (acc : JoinsAccepted x.program) where
         holds = holds;
         owned = λ c q. h.placed.owned c (protect_has r.plain r.carried o c q);
       } in
-      entering_stands x.program acc t k h.at is j n (with_value p.reg.name w env) (protect r.plain r.carried o) h.done fs ps kids callers placed h.all.1
+      entering_stands x.program acc t k h.at is j n (with_value p.reg.name w env) (protect r.plain r.carried o) h.done fs ps kids callers placed h.params.1
 
   retagged_stands : (t : Source) (k : ℕ) (is : List Inst) (j : Jump) (n : ℕ) (env : Env) (o : Owned) (fs : List Frame) (dest : Option Named) (w : Arg) → ((c : ℕ) → Has t.started c → (0 < c) × (c < 2 ^ 32)) → CallersStand x.program t.started fs
       → Retagged x.program t.started k is j env o dest → ThreadStands x.program (at_frames t (fr k is j n (put dest w env) o Ready ∷ fs))
   retagged_stands t k is j n env o fs None w kids callers h = record { frames = (inr (h.at, h.done ++ h.i ∷ [], h.placed), callers); kids = kids }
   retagged_stands t k is j n env o fs (Some m) w kids callers h =
       let fits : FunctionJoins h.at.code = acc k h.at.code h.at.is_code in
-      let holds : Holds h.at.code h.at.b h.at.block (h.done ++ h.i ∷ []) (with_value m.name w env) t.started = record {
+      let holds : HasHandles h.at.code h.at.b h.at.block (h.done ++ h.i ∷ []) (with_value m.name w env) t.started = record {
         missed = λ q e. h.placed.holds.missed q (or_false (bytes_eq m.name q) (is_bound env q) (sym (is_bound-with_value env m.name w q) ∙ e)).1;
-        children = λ q handle e.
+        children = λ q f handle e.
             subst (λ z. Has t.started z.value) (sym (value_in-with_value env m.name w q))
-            (kept_child t.started (bytes_eq m.name q) env q w (λ same. h.no_spawn (fits.joins.alone h.at.b h.at.block h.done is h.i q h.stands (ap (λ z. dest_defines z q) h.dest_is ∙ same) handle)) (h.placed.holds.children q handle) (sym (is_bound-with_value env m.name w q) ∙ e));
+            (kept_child t.started (bytes_eq m.name q) env q w
+            (λ same. h.no_spawn (spawn_alone h.at.code h.i m f (inst_held h.at.code h.at.b h.at.block h.done is h.i fits.joins.events h.stands) (fits.dests h.at.b h.at.block h.done is h.i m h.stands h.dest_is) h.dest_is (ap (held (function_events h.at.code)) ((bytes_decides m.name q).0 same) ∙ handle)))
+            (h.placed.holds.children q f handle) (sym (is_bound-with_value env m.name w q) ∙ e));
       } in
       let placed : Placed x.program t.started k h.at (with_value m.name w env) o (h.done ++ h.i ∷ []) is j = record { insts = h.placed.insts; term = h.placed.term; holds = holds; owned = h.placed.owned } in
       record { frames = (inr (h.at, h.done ++ h.i ∷ [], placed), callers); kids = kids }

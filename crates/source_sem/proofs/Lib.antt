@@ -3,6 +3,7 @@ pub mod Reading
 pub mod Mirroring
 pub mod Keeping
 pub mod Ending
+pub mod Events
 pub mod Joins
 pub mod JoinLaw
 pub mod JoinSteps

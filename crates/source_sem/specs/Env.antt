@@ -1,12 +1,7 @@
 -- Registers by name, operands, words at a type.
-use Rattle.std.specs.Prelude.{ℕ, ◌%◌, ◌^◌, List, [], ◌∷◌, Option, Some, None, if◌then◌else◌}
+use Rattle.std.specs.Prelude.{ℕ, List, [], ◌∷◌, Option, Some, None, if◌then◌else◌}
 use Rattle.std.specs.Str.{bytes_eq}
 use Rattle.history.specs.declared.ask.Arg.{Arg}
-use Rattle.bsan_ids.specs.declared.numbers.Prov.{Prov}
-use Rattle.ir_ast.specs.declared.types.Width.{Width}
-use Rattle.ir_ast.specs.declared.types.Width.TheVariants.{W8, W16, W32, W64}
-use Rattle.ir_ast.specs.declared.types.Ty.{Ty}
-use Rattle.ir_ast.specs.declared.types.Ty.TheVariants.{Int, Ptr}
 use Rattle.ir_ast.specs.declared.program.Val.{Val}
 use Rattle.ir_ast.specs.declared.program.Val.TheVariants.{Reg, Num}
 use Rattle.ir_ast.specs.declared.program.TypedVal.{TypedVal}

@@ -1,9 +1,9 @@
--- What a join asks of an accepted program: definite assignment on paths, handles defined by spawns alone; and the invariant of a frame.
-use Rattle.std.specs.Prelude.{◌≡◌, ◌<◌, ◌^◌, ◌⊎◌, ℕ, List, [], ◌∷◌, ◌++◌, Option, Some, None, Bool, true, false, if◌then◌else◌, slice_get}
+-- What a join asks of an accepted program: handles that are defined by spawns alone and assigned on every path; and the invariant of a frame.
+use Rattle.std.specs.Prelude.{◌≡◌, ◌<◌, ◌^◌, ◌⊎◌, ℕ, List, [], ◌∷◌, ◌++◌, map, Option, Some, Bool, true, false, if◌then◌else◌, slice_get}
+use Rattle.std.specs.List.{flat_map}
 use Rattle.std.specs.Str.{bytes_eq}
 use Rattle.ir_ast.specs.declared.program.Block.{Block}
 use Rattle.ir_ast.specs.declared.program.Function.{Function}
-use Rattle.ir_ast.specs.declared.program.Goal.{Goal}
 use Rattle.ir_ast.specs.declared.program.Inst.{Inst}
 use Rattle.ir_ast.specs.declared.program.Jump.{Jump}
 use Rattle.ir_ast.specs.declared.program.Jump.TheVariants as jump
@@ -12,128 +12,80 @@ use Rattle.ir_ast.specs.declared.program.Op.{Op}
 use Rattle.ir_ast.specs.declared.program.Op.TheVariants as op
 use Rattle.ir_ast.specs.declared.program.Param.{Param}
 use Rattle.ir_ast.specs.declared.types.Ty.{Ty}
+use Rattle.ir_ast.specs.Shapes.{Defines}
+use Rattle.ir_ast.specs.Tokens.{Each}
+use Rattle.ir_rules.specs.declared.rule.Wanted.{Wanted}
+use Rattle.ir_rules.specs.declared.rule.Wanted.TheVariants.{AValue, AHandle}
+use Rattle.ir_rules.specs.Occurrences.{Holds as Held, Use, Event, param_event, inst_events, function_events}
+use Rattle.ir_rules.specs.Occurrences.Holds.{value, handle}
+use Rattle.ir_rules.specs.Occurrences.Event.{defines, uses}
+use Rattle.ir_rules.specs.Paths.{Avoids, IsPath, IsUnassigned}
+use Rattle.ir_rules.specs.Rules.{held}
 use Rattle.source_sem.specs.Env.{Env, value_in}
 use Rattle.ir_ast.specs.declared.program.Program.{Program}
 use Rattle.history.specs.declared.ask.Arg.{Arg}
 use Rattle.history.specs.declared.entry.Entry.{Entry}
 use Rattle.bsan_ids.specs.declared.numbers.ThreadNo.{ThreadNo}
 use Rattle.history.specs.declared.ask.Ask.TheVariants as ask
-use Rattle.runs.specs.Parts.{Answers, child_of}
+use Rattle.runs.specs.Parts.{Has, Answers, child_of}
 use Rattle.thread_parts.specs.Owned.{Owned}
 use Rattle.source_sem.specs.Plain.{IsWaiting}
-use Rattle.ir_ast.specs.Numbers.{block_place}
 use Rattle.source_sem.specs.Source.{Setting, Source, Frame, Doing, Ready, Entering, Copying, Waiting, Retagging, Leaving, source_start, source_child, source_ask, source_turn, source_answer, source_fits}
 
--- does one of these define the register
-abbrev pub params_define : List Param → List ℕ → Bool
-params_define [] r = false
-params_define (p ∷ ps) r = if bytes_eq p.reg.name r then true else params_define ps r
+-- an event agrees with the function's registers: each holds what its definition says, and what its use wants
+abbrev pub IsWanted : Option Held → Wanted → Type 0
+IsWanted h (AValue ty) = h ≡ Some (value ty)
+IsWanted h AHandle = (f : List ℕ) × (h ≡ Some (handle f))
 
-abbrev pub dest_defines : Option Named → List ℕ → Bool
-dest_defines None r = false
-dest_defines (Some n) r = bytes_eq n.name r
+abbrev pub IsHeld : Function → Event → Type 0
+IsHeld g (defines d h) = held (function_events g) d.name ≡ Some h
+IsHeld g (uses u) = IsWanted (held (function_events g) u.reg.name) u.wanted
 
-abbrev pub insts_define : List Inst → List ℕ → Bool
-insts_define [] r = false
-insts_define (i ∷ is) r = if dest_defines i.dest r then true else insts_define is r
+-- what joins need of a function of an accepted program: each register holds one thing, a handle is assigned on every path to
+-- a use of it, and the first block takes nothing
+pub record JoinsFit (g : Function) : Type 0 where
+  pub events : Each (IsHeld g) (function_events g)
+  pub assigned : (u : Use) → u.wanted ≡ AHandle → IsUnassigned g u → ⊥
+  pub first : (block : Block) → slice_get g.blocks 0 ≡ Some block → block.params ≡ []
 
-abbrev pub IsGoal : Jump → Goal → Type 0
-IsGoal (jump.Br g) goal = g ≡ goal
-IsGoal (jump.CondBr v g h) goal = (g ≡ goal) ⊎ (h ≡ goal)
-IsGoal other goal = ⊥
-
--- block b goes to block c
-pub record GoesTo (g : Function) (b c : ℕ) : Type 0 where
-  pub block : Block
-  pub is_block : slice_get g.blocks b ≡ Some block
-  pub goal : Goal
-  pub is_goal : IsGoal block.term.jump goal
-  pub to : block_place g.blocks goal.label.name ≡ c
-
-pub record AvoidsBlock (g : Function) (r : List ℕ) (b : ℕ) : Type 0 where
-  pub block : Block
-  pub is_block : slice_get g.blocks b ≡ Some block
-  pub params : params_define block.params r ≡ false
-  pub insts : insts_define block.insts r ≡ false
-
--- a path of blocks, from its last block back to the first, on which the blocks before the last don't define the register
-abbrev pub IsPath : Function → List ℕ → List ℕ → Type 0
-IsPath g r [] = ⊥
-IsPath g r (b ∷ []) = b ≡ 0
-IsPath g r (c ∷ b ∷ path) = GoesTo g b c × AvoidsBlock g r b × IsPath g r (b ∷ path)
-
--- some path comes to the instruction behind `done` in block b without a definition of the register
-pub record IsUnassigned (g : Function) (b : ℕ) (block : Block) (done : List Inst) (r : List ℕ) : Type 0 where
-  pub at_entry : params_define g.params r ≡ false
-  pub path : List ℕ
-  pub is_path : IsPath g r (b ∷ path)
-  pub params : params_define block.params r ≡ false
-  pub before : insts_define done r ≡ false
-
--- instruction i stands in block b, behind `done`
+-- instruction i stands in block b, after `done`
 pub record StandsAt (g : Function) (b : ℕ) (block : Block) (done : List Inst) (i : Inst) (rest : List Inst) : Type 0 where
   pub is_block : slice_get g.blocks b ≡ Some block
   pub insts : block.insts ≡ done ++ i ∷ rest
+
+-- some path comes to the instruction after `done` in block b without a definition of the register
+pub record IsUnassignedAfter (g : Function) (b : ℕ) (block : Block) (done : List Inst) (r : List ℕ) : Type 0 where
+  pub at_entry : Avoids r (map param_event g.params)
+  pub path : List ℕ
+  pub is_path : IsPath g r (b ∷ path)
+  pub params : Avoids r (map param_event block.params)
+  pub before : Avoids r (flat_map inst_events done)
 
 abbrev pub IsSpawnOp : Op → Type 0
 IsSpawnOp (op.Spawn function args) = Unit {0}
 IsSpawnOp other = ⊥
 
--- a register that a spawn defines
-pub record IsHandle (g : Function) (r : List ℕ) : Type 0 where
-  pub b : ℕ
-  pub block : Block
-  pub done : List Inst
-  pub i : Inst
-  pub rest : List Inst
-  pub stands : StandsAt g b block done i rest
-  pub spawns : IsSpawnOp i.op
-  pub defines : dest_defines i.dest r ≡ true
-
--- what joins need of a function of an accepted program: Unassigned, HandleUse and Twice aren't broken
-pub record JoinsFit (g : Function) : Type 0 where
-  pub assigned : (b : ℕ) (block : Block) (done rest : List Inst) (i : Inst) (ty : Option Ty) (at : ℕ) (h : Named) → StandsAt g b block done i rest → i.op ≡ op.Join ty at h → IsUnassigned g b block done h.name → ⊥
-  pub handle : (b : ℕ) (block : Block) (done rest : List Inst) (i : Inst) (ty : Option Ty) (at : ℕ) (h : Named) → StandsAt g b block done i rest → i.op ≡ op.Join ty at h → IsHandle g h.name
-  pub params : (r : List ℕ) → IsHandle g r → params_define g.params r ≡ false
-  pub block_params : (b : ℕ) (block : Block) (r : List ℕ) → slice_get g.blocks b ≡ Some block → IsHandle g r → params_define block.params r ≡ false
-  pub alone : (b : ℕ) (block : Block) (done rest : List Inst) (i : Inst) (r : List ℕ) → StandsAt g b block done i rest → dest_defines i.dest r ≡ true → IsHandle g r → IsSpawnOp i.op
-  pub first : (block : Block) → slice_get g.blocks 0 ≡ Some block → block.params ≡ []
-
 abbrev pub is_bound : Env → List ℕ → Bool
 is_bound [] r = false
 is_bound (e ∷ env) r = if bytes_eq e.0 r then true else is_bound env r
 
-abbrev pub Has : List ℕ → ℕ → Type 0
-Has [] c = ⊥
-Has (d ∷ ds) c = (d ≡ c) ⊎ Has ds c
-
--- the registers of a frame behind `done` in block b: a register without a value is unassigned on a path, a handle with a value is a child
-pub record Holds (g : Function) (b : ℕ) (block : Block) (done : List Inst) (env : Env) (started : List ℕ) : Type 0 where
-  pub missed : (r : List ℕ) → is_bound env r ≡ false → IsUnassigned g b block done r
-  pub children : (r : List ℕ) → IsHandle g r → is_bound env r ≡ true → Has started (value_in env r).value
+-- the registers of a frame after `done` in block b: one without a value is unassigned on a path, a handle with a value is a child
+pub record HasHandles (g : Function) (b : ℕ) (block : Block) (done : List Inst) (env : Env) (started : List ℕ) : Type 0 where
+  pub missed : (r : List ℕ) → is_bound env r ≡ false → IsUnassignedAfter g b block done r
+  pub children : (r f : List ℕ) → held (function_events g) r ≡ Some (handle f) → is_bound env r ≡ true → Has started (value_in env r).value
 
 -- the invariant of a thread -----------------------------------------------------
-
--- the operation gives a value, so that it may have a destination
-abbrev pub GivesValue : Op → Type 0
-GivesValue (op.Store ty v p) = ⊥
-GivesValue (op.Copy d s v) = ⊥
-GivesValue (op.Free p) = ⊥
-GivesValue (op.Print w v) = ⊥
-GivesValue (op.Call None name args) = ⊥
-GivesValue (op.Join None at h) = ⊥
-GivesValue other = Unit {0}
 
 pub record FunctionJoins (g : Function) : Type 0 where
   pub begins : Block
   pub begins_is : slice_get g.blocks 0 ≡ Some begins
   pub joins : JoinsFit g
-  pub dests : (b : ℕ) (block : Block) (done rest : List Inst) (i : Inst) (n : Named) → StandsAt g b block done i rest → i.dest ≡ Some n → GivesValue i.op
+  pub dests : (b : ℕ) (block : Block) (done rest : List Inst) (i : Inst) (n : Named) → StandsAt g b block done i rest → i.dest ≡ Some n → Defines i.op
 
 abbrev pub JoinsAccepted : Program → Type 0
 JoinsAccepted P = (k : ℕ) (g : Function) → slice_get P.functions k ≡ Some g → FunctionJoins g
 
--- a frame of function k whose block goes on with these instructions, behind `done`
+-- a frame of function k whose block goes on with these instructions, after `done`
 pub record Site (P : Program) (k : ℕ) : Type 0 where
   pub code : Function
   pub is_code : slice_get P.functions k ≡ Some code
@@ -144,21 +96,17 @@ pub record Site (P : Program) (k : ℕ) : Type 0 where
 pub record Placed (P : Program) (started : List ℕ) (k : ℕ) (at : Site P k) (env : Env) (o : Owned) (done left : List Inst) (j : Jump) : Type 0 where
   pub insts : at.block.insts ≡ done ++ left
   pub term : j ≡ at.block.term.jump
-  pub holds : Holds at.code at.b at.block done env started
+  pub holds : HasHandles at.code at.b at.block done env started
   pub owned : (c : ℕ) → Has o.children c → Has started c
 
 abbrev pub Somewhere : Program → List ℕ → ℕ → List Inst → Jump → Env → Owned → Type 0
 Somewhere P started k is j env o = (at : Site P k) × (done : List Inst) × Placed P started k at env o done is j
 
-abbrev pub AllParams : List Param → List Param → Type 0
-AllParams [] all = Unit {0}
-AllParams (p ∷ ps) all = ((r : List ℕ) → bytes_eq p.reg.name r ≡ true → params_define all r ≡ true) × AllParams ps all
-
 pub record Enters (P : Program) (started : List ℕ) (k : ℕ) (is : List Inst) (j : Jump) (env : Env) (o : Owned) (ps : List Param) : Type 0 where
   pub at : Site P k
   pub done : List Inst
   pub placed : Placed P started k at env o done is j
-  pub all : AllParams ps at.code.params
+  pub params : Each (IsHeld at.code) (map param_event ps)
 
 -- the instruction that waits for its result, with no value yet
 pub record Waits (P : Program) (started : List ℕ) (k : ℕ) (is : List Inst) (j : Jump) (env : Env) (o : Owned) (dest : Option Named) (ty : Option Ty) : Type 0 where

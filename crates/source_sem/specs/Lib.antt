@@ -1,6 +1,7 @@
 pub mod Env
 pub mod Source
 pub mod Starting
+pub mod Records
 pub mod Plain
 pub mod Example
 pub mod Joining

@@ -1,5 +1,5 @@
 -- A program that spawns in a loop, joins there, and joins once more on both arms of a branch.
-use Rattle.std.specs.Prelude.{[], ◌∷◌, Some}
+use Rattle.std.specs.Prelude.{codes, [], ◌∷◌, Some}
 use Rattle.ir_ast.specs.declared.operators.BinaryOp.TheVariants.{Add}
 use Rattle.ir_ast.specs.declared.operators.Cond.TheVariants.{Ult}
 use Rattle.ir_ast.specs.declared.program.Block.{Block}
@@ -61,7 +61,7 @@ abbrev pub second_arm : Block
 second_arm = block 110 [] (joins_second ∷ []) (ret_of (reg (Int W64) 100))
 
 abbrev pub looping : Function
-looping = function (109 ∷ 97 ∷ 105 ∷ 110 ∷ []) [] (gives (Int W64)) (entry_block ∷ loop_block ∷ branch_block ∷ first_arm ∷ second_arm ∷ [])
+looping = function (codes "main") [] (gives (Int W64)) (entry_block ∷ loop_block ∷ branch_block ∷ first_arm ∷ second_arm ∷ [])
 
 abbrev pub program : Program
 program = record { version = 1; functions = child ∷ looping ∷ []; end = 0 }

@@ -1,7 +1,6 @@
 -- The source thread: frames over the text, registers by name. With `tracked` false it is the thread of the plain program.
-use Rattle.std.specs.Prelude.{◌≡◌, ◌<◌, ◌⊎◌, ℕ, suc, ◌+◌, ◌%◌, ◌^◌, List, [], ◌∷◌, Option, Some, None, Bool, true, false, if◌then◌else◌, length, nat_lt, slice_get}
+use Rattle.std.specs.Prelude.{◌≡◌, ℕ, suc, ◌+◌, ◌%◌, ◌^◌, List, [], ◌∷◌, Option, Some, None, Bool, true, false, if◌then◌else◌, length, nat_lt, slice_get}
 use Rattle.std.specs.Option.{option_and_then}
-use Rattle.bsan_ids.specs.declared.numbers.AllocNo.{AllocNo}
 use Rattle.history.specs.declared.ask.Arg.{Arg}
 use Rattle.history.specs.declared.ask.Ask.{Ask}
 use Rattle.history.specs.declared.ask.Ask.TheVariants as ask
@@ -9,17 +8,13 @@ use Rattle.history.specs.declared.entry.Entry.{Entry}
 use Rattle.perm_table.specs.declared.Guard.TheVariants.{Free}
 use Rattle.history.specs.declared.ask.MachineEnd.{MachineEnd}
 use Rattle.history.specs.declared.ask.MachineEnd.TheVariants as end
-use Rattle.history.specs.declared.entry.Plain.{Plain}
-use Rattle.history.specs.declared.entry.Plain.TheVariants as plain
 use Rattle.history.specs.declared.entry.Reply.{Reply}
-use Rattle.history.specs.declared.entry.Request.{Request}
-use Rattle.history.specs.declared.entry.Request.TheVariants as request
 use Rattle.history.specs.declared.trap.Trap.{Trap}
 use Rattle.history.specs.declared.trap.Trap.TheVariants as trap
 use Rattle.ir_ast.specs.Numbers.{place, function_place, block_place, number_of_block, number_of_function}
 use Rattle.ir_ast.specs.Attributes.{guard_of, attr_of_call, definitions, attr_of_handle}
 use Rattle.ir_ast.specs.declared.types.Ty.{Ty}
-use Rattle.ir_ast.specs.declared.types.Ty.TheVariants.{Int, Ptr}
+use Rattle.ir_ast.specs.declared.types.Ty.TheVariants.{Ptr}
 use Rattle.ir_ast.specs.declared.types.Attr.{Attr}
 use Rattle.ir_ast.specs.declared.program.Block.{Block}
 use Rattle.ir_ast.specs.declared.program.Function.{Function}
@@ -36,7 +31,7 @@ use Rattle.ir_ast.specs.declared.program.TypedVal.{TypedVal}
 use Rattle.runs.specs.Machine.{Machine}
 use Rattle.runs.specs.Threads.{CountsTurns}
 use Rattle.history.specs.Replies.{trap_of}
-use Rattle.thread_parts.specs.Words.{blank, plain_arg, prov_at, arg_at, cut_at, number_in}
+use Rattle.thread_parts.specs.Words.{blank, plain_arg, arg_at, cut_at, number_in}
 use Rattle.ir_ast.specs.Words.{bits}
 use Rattle.source_sem.specs.Env.{Env, value_in, operand, arg_of, args_of, with_value, bind, put, put_some}
 use Rattle.thread_parts.specs.Parts.{Part, Gives, Steps, Retags, Copies, Calls, Joins, Accesses, Prints, Spawns, Loads, Stores, Modifies, Compares, Frees, part_ask, retag_ask, step_started, step_result, moved, binary_part, compared, chosen, cast_arg, input_arg, make_part, makes_step, retag_part, copy_part, call_part, host_part, join_part}
@@ -120,27 +115,32 @@ abbrev pub in_block : Frame → Option Block → ℕ → List Arg → Frame
 in_block f None n xs = record f { insts = []; term = jump.Unreachable; number = n; doing = Ready }
 in_block f (Some b) n xs = record f { insts = b.insts; term = b.term.jump; number = n; env = bind b.params xs f.env; doing = Ready }
 
+-- in the same function, the block of the goal's label, with the goal's arguments for its parameters
 abbrev pub goto_in : Setting → Frame → Option Function → Goal → Frame
 goto_in x f None goal = in_block f None f.number []
 goto_in x f (Some g) goal =
     in_block f (slice_get g.blocks (block_place g.blocks goal.label.name)) (number_of_block (number_of_function 0 x.program.functions f.function) g.blocks (block_place g.blocks goal.label.name)) (args_of f.env goal.args)
 
+-- the frame after a jump
 abbrev pub goto : Setting → Frame → Goal → Frame
 goto x f goal = goto_in x f (slice_get x.program.functions f.function) goal
 
--- the parameters that are still to be retagged
+-- does a retag by the attribute make a step
 abbrev pub has_step : Bool → Option Attr → Bool
 has_step tracked None = false
 has_step tracked (Some a) = makes_step tracked a.size
 
+-- the parameters whose attributes make steps, in order
 abbrev pub to_retag : Bool → List Param → List Param
 to_retag tracked [] = []
 to_retag tracked (p ∷ ps) = if has_step tracked p.attr then p ∷ to_retag tracked ps else to_retag tracked ps
 
+-- a frame enters where a parameter is still to be retagged; else it is ready
 abbrev pub entering : List Param → Doing
 entering [] = Ready
 entering (p ∷ ps) = Entering (p ∷ ps)
 
+-- the instructions of the first block, and its jump
 abbrev pub first_insts : Option Block → List Inst
 first_insts None = []
 first_insts (Some b) = b.insts
@@ -162,6 +162,7 @@ frame_of x k (Some g) xs = record {
   doing = entering (to_retag x.tracked g.params);
 }
 
+-- the frame of a function with these arguments, before its entry retags
 abbrev pub new_frame : Setting → ℕ → List Arg → Frame
 new_frame x k xs = frame_of x k (slice_get x.program.functions k) xs
 
@@ -170,10 +171,12 @@ abbrev pub taken : Option Ty → Arg → Option Arg
 taken None v = None
 taken (Some ty) v = Some (arg_at ty v)
 
+-- the same, where it is retagged next
 abbrev pub taken_arg : Option Ty → Arg → Arg
 taken_arg None v = blank
 taken_arg (Some ty) v = arg_at ty v
 
+-- the attribute by which a result is retagged, where that makes a step
 abbrev pub result_step : Bool → Option Ty → Option Attr → Option Attr
 result_step tracked (Some Ptr) (Some a) = if makes_step tracked a.size then Some a else None
 result_step tracked ty attr = None
@@ -183,6 +186,7 @@ abbrev pub resumed_by : Frame → Option Named → Option Ty → Option Attr →
 resumed_by f dest ty None v = record f { number = f.number + 1; env = put_some dest (taken ty v) f.env; doing = Ready }
 resumed_by f dest ty (Some a) v = record f { env = put_some dest (taken ty v) f.env; doing = Retagging dest (taken_arg ty v) a }
 
+-- the caller after a return: it waited for this value
 abbrev pub resumed : Bool → Frame → Doing → Arg → Frame
 resumed tracked f (Waiting dest ty attr) v = resumed_by f dest ty (result_step tracked ty attr) v
 resumed tracked f other v = record f { insts = []; term = jump.Unreachable; doing = Ready }
@@ -207,36 +211,44 @@ returned_value env (Some v) = arg_of env v
 abbrev pub nowhere : Ask
 nowhere = ask.Ended (end.Trapped trap.Unreachable)
 
+-- what is still to be given up, or this
 abbrev pub release_or : Option Ask → Ask → Ask
 release_or None a = a
 release_or (Some b) a = b
 
+-- what a frame asks at its terminator
 abbrev pub term_ask : Frame → Jump → Ask
 term_ask f (jump.Br goal) = ask.Turn
 term_ask f (jump.CondBr v first second) = ask.Turn
 term_ask f (jump.Ret v at) = release_or (release_ask f.owned) ask.Turn
 term_ask f jump.Unreachable = ask.Ended (end.Trapped trap.Unreachable)
 
+-- at its next instruction, of which no part is done
 abbrev pub ready_ask : Setting → Frame → ℕ → List Inst → Ask
 ready_ask x f depth [] = term_ask f f.term
 ready_ask x f depth (i ∷ rest) = part_ask (op_part x f.function depth f.env i.op)
 
+-- within a copy
 abbrev pub copying_by : Part → Progress → Ask
 copying_by (Copies d s n) pr = copy_ask d s n pr
 copying_by other pr = nowhere
 
+-- within the copy that is its next instruction
 abbrev pub copying_ask : Setting → Frame → ℕ → List Inst → Progress → Ask
 copying_ask x f depth [] pr = nowhere
 copying_ask x f depth (i ∷ rest) pr = copying_by (op_part x f.function depth f.env i.op) pr
 
+-- the retag of a parameter, with the guard of its kind
 abbrev pub entry_ask : Arg → Option Attr → Ask
 entry_ask v None = nowhere
 entry_ask v (Some a) = retag_ask v a.kind (guard_of a.kind) a.size
 
+-- the next parameter's retag
 abbrev pub entering_ask : Env → List Param → Ask
 entering_ask env [] = nowhere
 entering_ask env (p ∷ ps) = entry_ask (value_in env p.reg.name) p.attr
 
+-- what a frame asks, by what it is doing
 abbrev pub doing_ask : Setting → Frame → ℕ → Doing → Ask
 doing_ask x f depth Ready = ready_ask x f depth f.insts
 doing_ask x f depth (Entering ps) = entering_ask f.env ps
@@ -245,10 +257,12 @@ doing_ask x f depth (Waiting dest ty attr) = nowhere
 doing_ask x f depth (Retagging dest v a) = retag_ask v a.kind Free a.size
 doing_ask x f depth (Leaving v) = release_or (release_ask f.owned) nowhere
 
+-- what a thread asks: what its innermost frame does, or its end
 abbrev pub frames_ask : Setting → List Frame → MachineEnd → Ask
 frames_ask x [] over = ask.Ended over
 frames_ask x (f ∷ fs) over = doing_ask x f (suc (length fs)) f.doing
 
+-- what the thread asks
 abbrev pub source_ask : Setting → Source → Ask
 source_ask x t = frames_ask x t.frames t.over
 
@@ -258,28 +272,34 @@ source_ask x t = frames_ask x t.frames t.over
 abbrev pub waiting : Frame → List Inst → Option Named → Option Ty → Option Attr → Frame
 waiting f rest dest ty attr = record f { insts = rest; doing = Waiting dest ty attr }
 
+-- an instruction that is a local turn: it gives its value, or calls
 abbrev pub part_turn : Setting → Source → Frame → List Frame → List Inst → Option Named → Part → Source
 part_turn x t f fs rest dest (Gives v) = at_frames t (advance f rest (put_some dest v f.env) f.owned ∷ fs)
 part_turn x t f fs rest dest (Calls k xs ty attr) = at_frames t (new_frame x k xs ∷ waiting f rest dest ty attr ∷ fs)
 part_turn x t f fs rest dest other = t
 
+-- a terminator that is a local turn: a jump, or a return with nothing left to give up
 abbrev pub term_turn : Setting → Source → Frame → List Frame → Jump → Source
 term_turn x t f fs (jump.Br goal) = at_frames t (goto x f goal ∷ fs)
 term_turn x t f fs (jump.CondBr v first second) = at_frames t (goto x f (chosen (operand f.env v).value first second) ∷ fs)
 term_turn x t f fs (jump.Ret v at) = return_to x.tracked t f fs (returned_value f.env v)
 term_turn x t f fs jump.Unreachable = t
 
+-- the next instruction as a local turn
 abbrev pub ready_turn : Setting → Source → Frame → List Frame → List Inst → Source
 ready_turn x t f fs [] = term_turn x t f fs f.term
 ready_turn x t f fs (i ∷ rest) = part_turn x t f fs rest i.dest (op_part x f.function (suc (length fs)) f.env i.op)
 
+-- the innermost frame's local turn
 abbrev pub frames_turn : Setting → Source → List Frame → Source
 frames_turn x t [] = t
 frames_turn x t (f ∷ fs) = ready_turn x t f fs f.insts
 
+-- one instruction more
 abbrev pub counted : Source → Source
 counted t = record t { count = t.count + 1 }
 
+-- the thread after its local turn, which counts as one instruction
 abbrev pub source_turn : Setting → Source → Source
 source_turn x t = frames_turn x (counted t) t.frames
 
@@ -290,22 +310,28 @@ abbrev pub leave : Bool → Source → Frame → List Frame → Arg → Option A
 leave tracked t f fs v None = return_to tracked t f fs v
 leave tracked t f fs v (Some a) = at_frames t (record f { doing = Leaving v } ∷ fs)
 
+-- the return goes on with what is left to give up
 abbrev pub leave_with : Bool → Source → Frame → List Frame → Arg → Owned → Source
 leave_with tracked t f fs v o = leave tracked t (record f { owned = o }) fs v (release_ask o)
 
+-- the return after one thing was given up
 abbrev pub leave_on : Bool → Source → Frame → List Frame → Arg → Source
 leave_on tracked t f fs v = leave_with tracked t f fs v (released f.owned)
 
+-- a copy that is done is done with its instruction
 abbrev pub copy_on : Source → Frame → List Frame → List Inst → Progress → Bool → Source
 copy_on t f fs rest pr true = at_frames t (advance f rest f.env f.owned ∷ fs)
 copy_on t f fs rest pr false = at_frames t (record f { doing = Copying pr } ∷ fs)
 
+-- the copy after this progress
 abbrev pub copied : Source → Frame → List Frame → List Inst → ℕ → Progress → Source
 copied t f fs rest n pr = copy_on t f fs rest pr (copy_done n pr)
 
+-- the child is not joined again at the return
 abbrev pub joined : Owned → ℕ → Owned
 joined o c = record o { children = without c o.children }
 
+-- the thread after the first part of an instruction was answered
 abbrev pub part_answer : Setting → Source → Frame → List Frame → List Inst → Option Named → Part → Reply → Source
 part_answer x t f fs rest dest (Steps s) r =
     record t { frames = advance f rest (put_some dest (step_result s r) f.env) (step_owned s r f.owned) ∷ fs; started = step_started s r t.started }
@@ -316,33 +342,41 @@ part_answer x t f fs rest dest (Joins c ty attr) r =
     at_frames t (resumed_by (record f { insts = rest; owned = joined f.owned c }) dest ty (result_step x.tracked ty attr) (record { value = number_in r.plain; prov = r.carried }) ∷ fs)
 part_answer x t f fs rest dest other r = t
 
+-- after the first thing that a return gave up
 abbrev pub term_answer : Bool → Source → Frame → List Frame → Jump → Source
 term_answer tracked t f fs (jump.Ret v at) = leave_on tracked t f fs (returned_value f.env v)
 term_answer tracked t f fs other = t
 
+-- after the first part of its next instruction
 abbrev pub ready_answer : Setting → Source → Frame → List Frame → List Inst → Reply → Source
 ready_answer x t f fs [] r = term_answer x.tracked t f fs f.term
 ready_answer x t f fs (i ∷ rest) r = part_answer x t f fs rest i.dest (op_part x f.function (suc (length fs)) f.env i.op) r
 
+-- after a later part of a copy
 abbrev pub copying_part : Source → Frame → List Frame → List Inst → Part → Progress → Reply → Source
 copying_part t f fs rest (Copies d s n) pr r = copied t f fs rest n (copy_after pr r.plain)
 copying_part t f fs rest other pr r = t
 
+-- after a later part of the copy that is its next instruction
 abbrev pub copying_answer : Setting → Source → Frame → List Frame → List Inst → Progress → Reply → Source
 copying_answer x t f fs [] pr r = t
 copying_answer x t f fs (i ∷ rest) pr r = copying_part t f fs rest (op_part x f.function (suc (length fs)) f.env i.op) pr r
 
+-- the parameter holds what its retag gave, and its protector is kept
 abbrev pub entered : Frame → Param → List Param → Reply → Frame
 entered f p ps r =
     record f { env = with_value p.reg.name (record { value = (value_in f.env p.reg.name).value; prov = r.carried }) f.env; owned = protect r.plain r.carried f.owned; doing = entering ps }
 
+-- after the retag of a parameter
 abbrev pub entering_answer : Source → Frame → List Frame → List Param → Reply → Source
 entering_answer t f fs [] r = t
 entering_answer t f fs (p ∷ ps) r = at_frames t (entered f p ps r ∷ fs)
 
+-- the result after its retag
 abbrev pub retagged : Frame → Option Named → Arg → Reply → Frame
 retagged f dest v r = record f { number = f.number + 1; env = put dest (record { value = v.value; prov = r.carried }) f.env; doing = Ready }
 
+-- the thread after the reply, by what its innermost frame was doing
 abbrev pub doing_answer : Setting → Source → Frame → List Frame → Doing → Reply → Source
 doing_answer x t f fs Ready r = ready_answer x t f fs f.insts r
 doing_answer x t f fs (Entering ps) r = entering_answer t f fs ps r
@@ -362,10 +396,12 @@ abbrev pub is_ready : Doing → Bool
 is_ready Ready = true
 is_ready other = false
 
+-- the same of a thread's innermost frame
 abbrev pub frames_begin : List Frame → Bool
 frames_begin [] = false
 frames_begin (f ∷ fs) = is_ready f.doing
 
+-- would the thread's next part be an instruction's first
 abbrev pub source_begins : Source → Bool
 source_begins t = frames_begin t.frames
 
@@ -374,6 +410,7 @@ abbrev pub counted_if : Bool → Source → Source
 counted_if true t = counted t
 counted_if false t = t
 
+-- the thread after a reply; the count rises with an instruction's first part
 abbrev pub source_answer : Setting → Source → Reply → Source
 source_answer x t r = frames_answer x (counted_if (source_begins t) t) t.frames (trap_of r.plain) r
 
@@ -382,6 +419,7 @@ abbrev pub frames_site : List Frame → ℕ → ℕ
 frames_site [] last = last
 frames_site (f ∷ fs) last = f.number
 
+-- the number of the instruction at which the thread stands, or of its last one, at its end
 abbrev pub source_site : Source → ℕ
 source_site t = frames_site t.frames t.last
 
@@ -394,14 +432,17 @@ abbrev pub part_child : Setting → Part → Source
 part_child x (Steps (Spawns k xs)) = source_start x k xs
 part_child x other = source_start x 0 []
 
+-- of the next instruction of a frame
 abbrev pub insts_child : Setting → Frame → ℕ → List Inst → Source
 insts_child x f depth [] = source_start x 0 []
 insts_child x f depth (i ∷ is) = part_child x (op_part x f.function depth f.env i.op)
 
+-- of a thread's innermost frame
 abbrev pub frames_child : Setting → List Frame → Source
 frames_child x [] = source_start x 0 []
 frames_child x (f ∷ fs) = insts_child x f (suc (length fs)) f.insts
 
+-- the first state of the child that the thread's spawn starts
 abbrev pub source_child : Setting → Source → Source
 source_child x t = frames_child x t.frames
 
@@ -412,17 +453,21 @@ abbrev pub part_type : Part → Option Ty
 part_type (Joins c ty attr) = ty
 part_type other = None
 
+-- of the next instruction of a frame
 abbrev pub insts_type : Setting → Frame → ℕ → List Inst → Option Ty
 insts_type x f depth [] = None
 insts_type x f depth (i ∷ is) = part_type (op_part x f.function depth f.env i.op)
 
+-- of a thread's innermost frame
 abbrev pub frames_type : Setting → List Frame → Option Ty
 frames_type x [] = None
 frames_type x (f ∷ fs) = insts_type x f (suc (length fs)) f.insts
 
+-- the reply of the entry fits what the thread asks
 abbrev pub source_fits : Setting → Source → Entry → Type 0
 source_fits x t e = ReplyFits (frames_type x t.frames) e e.request
 
+-- the source threads of a program, as machines that ask and are answered
 abbrev pub source : Setting → Machine
 source x = record {
   State = Source;
@@ -436,6 +481,7 @@ source x = record {
   child = source_child x;
 }
 
+-- the plain program: without provenance, retags and protectors
 abbrev pub plain_setting : Setting → Setting
 plain_setting x = record x { tracked = false }
 

@@ -1,5 +1,5 @@
 -- Where threads start: a program's setting, arguments that fit parameters, and main.
-use Rattle.std.specs.Prelude.{ℕ, List, [], ◌∷◌, map, true}
+use Rattle.std.specs.Prelude.{ℕ, List, [], ◌∷◌, map, codes, true}
 use Rattle.history.specs.declared.ask.Arg.{Arg}
 use Rattle.ir_ast.specs.declared.hosts.HostTable.{HostTable}
 use Rattle.ir_ast.specs.declared.program.Param.{Param}
@@ -19,12 +19,8 @@ ArgsFit [] (a ∷ args) = ⊥
 ArgsFit (p ∷ ps) [] = ⊥
 ArgsFit (p ∷ ps) (a ∷ args) = ValueFits p.ty a × ArgsFit ps args
 
--- the bytes of the name main
-abbrev pub main_name : List ℕ
-main_name = 109 ∷ 97 ∷ 105 ∷ 110 ∷ []
-
 abbrev pub main_of : Program → ℕ
-main_of program = function_place program.functions main_name
+main_of program = function_place program.functions (codes "main")
 
 -- the first state of thread 0
 abbrev pub main_start : Setting → Source

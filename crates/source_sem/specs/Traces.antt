@@ -1,5 +1,5 @@
 -- Small programs, and what their threads ask one part after the other, each with its instruction's number.
-use Rattle.std.specs.Prelude.{ℕ, List, [], ◌∷◌, Option, Some, None, true, replicate}
+use Rattle.std.specs.Prelude.{codes, ℕ, List, [], ◌∷◌, Option, Some, None, true, replicate}
 use Rattle.bsan_ids.specs.declared.numbers.AllocNo.{AllocNo}
 use Rattle.bsan_ids.specs.declared.numbers.Prov.{Prov}
 use Rattle.bsan_ids.specs.declared.numbers.Tag.{Tag}
@@ -154,7 +154,7 @@ sibling_f =
 
 abbrev pub sibling_main : Function
 sibling_main =
-    function (109 ∷ 97 ∷ 105 ∷ 110 ∷ []) [] (gives (Int W64))
+    function (codes "main") [] (gives (Int W64))
     (block 101 []
     (def 120 (op.Make Stack (Num 16))
     ∷ def 122 (op.Call (Some Ptr) (named 102) (reg Ptr 120 ∷ reg Ptr 120 ∷ []))

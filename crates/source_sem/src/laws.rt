@@ -27,7 +27,7 @@ pub fn erases()
 
 /// In each state that a thread of an accepted program can reach, a join asks for a child that this
 /// thread has started. The premise is met by a program that spawns in a loop and joins there and
-/// behind it.
+/// after it.
 pub fn joins()
     ensures law { (x : Setting) → JoinsAccepted x.program → JoinLaw x }
     ensures example { JoinsAccepted program }

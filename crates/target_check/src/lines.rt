@@ -5,7 +5,7 @@ ghost use Rattle.target_code.specs.Formed.{check_of, check_made, unshadowed, sha
 ghost use Rattle.target_check.specs.Checks.{check_line};
 
 use ir_ast::Ty;
-use target_code::{Line, Operand, ty_bytes, width_bytes};
+use target_code::{Line, Operand};
 
 /// A check line.
 #[derive(Clone, Copy, PartialEq, Eq)]
@@ -13,12 +13,12 @@ pub enum Check {
     Read {
         ptr: u32,
         ptr_shadow: u32,
-        bytes: u8,
+        bytes: u32,
     },
     Write {
         ptr: u32,
         ptr_shadow: u32,
-        bytes: u8,
+        bytes: u32,
     },
     Copy {
         to: u32,
@@ -41,17 +41,17 @@ pub fn check_of(line: &Line) -> Option<Check>
         Line::Load { ty, ptr, .. } => Some(Check::Read {
             ptr: *ptr,
             ptr_shadow: *ptr,
-            bytes: ty_bytes(*ty),
+            bytes: ty.bytes(),
         }),
         Line::Store { ty, ptr, .. } => Some(Check::Write {
             ptr: *ptr,
             ptr_shadow: *ptr,
-            bytes: ty_bytes(*ty),
+            bytes: ty.bytes(),
         }),
         Line::Modify { width, ptr, .. } | Line::CmpXchg { width, ptr, .. } => Some(Check::Write {
             ptr: *ptr,
             ptr_shadow: *ptr,
-            bytes: width_bytes(*width),
+            bytes: width.bytes(),
         }),
         Line::Copy { to, from, len } => Some(Check::Copy {
             to: *to,

@@ -2,6 +2,7 @@
 ghost use Rattle.std.specs.Prelude.{◌≡◌, ◌<◌, ◌↔◌, ◌++◌, nat_lt, IsTrue, IfSome};
 ghost use Rattle.std.specs.List.{list_all};
 ghost use Rattle.ir_ast.specs.Tokens.{Each};
+ghost use Rattle.target_check.specs.Families.{IsFlow, IsAccess, IsValue, IsCall};
 ghost use Rattle.target_code.specs.Formed as formed;
 ghost use Rattle.target_code.specs.Formed.{operand_slots, shadow_slots, args_slots, block_named, function_named, NamesKnown};
 
@@ -52,105 +53,53 @@ fn args_known(args: &[Operand], count: u32) -> bool
 }
 
 #[tactic(auto, using(crate::proofs::Parts::all_joined))]
-fn slots_known(line: &Line, count: u32) -> bool
+fn flow_known(line: &Line, count: u32) -> bool
+    requires { IsFlow line.now }
     ensures { result ≡ list_all (λ slot. nat_lt slot count) (formed.slots line.now) }
 {
     match line {
         Line::Turn { .. }
         | Line::PushFrame
-        | Line::Call { .. }
-        | Line::RetagResult { .. }
         | Line::Jump { .. }
         | Line::PopFrame
         | Line::Return
         | Line::Unreachable => true,
-        Line::Param { slot, .. }
-        | Line::ShadowParam { shadow: slot, .. }
-        | Line::Const { slot, .. }
-        | Line::Loaded { shadow: slot }
-        | Line::Free { ptr: slot }
-        | Line::TakeArg { slot, .. }
-        | Line::TakeShadowArg { shadow: slot, .. }
-        | Line::CallResult { slot }
-        | Line::ShadowCallResult { shadow: slot }
-        | Line::Spawn { slot, .. }
-        | Line::Join { handle: slot } => *slot < count,
-        Line::Print { value, .. }
-        | Line::Arg { value, .. }
-        | Line::Branch { cond: value }
-        | Line::Result { value } => operand_known(*value, count),
-        Line::Stored { from } | Line::ShadowArg { from, .. } | Line::ShadowResult { from } => {
-            shadow_known(*from, count)
-        }
-        Line::Move { slot, from: other }
-        | Line::CheckRead {
-            ptr: slot,
-            ptr_shadow: other,
-            ..
-        }
-        | Line::Load {
-            slot,
-            ptr: other,
-            ..
-        }
-        | Line::CheckWrite {
-            ptr: slot,
-            ptr_shadow: other,
-            ..
-        }
-        | Line::PtrToInt { slot, ptr: other }
-        | Line::CheckFree {
-            ptr: slot,
-            ptr_shadow: other,
-        } => *slot < count && *other < count,
-        Line::Store {
-            value,
-            ptr: slot,
-            ..
-        }
-        | Line::Cast { slot, value, .. }
-        | Line::Input { slot, index: value } => *slot < count && operand_known(*value, count),
-        Line::ShadowMove { shadow, from } => *shadow < count && shadow_known(*from, count),
-        Line::Make {
-            slot,
-            shadow: other,
-            size: value,
-            ..
-        }
-        | Line::Gep {
-            slot,
-            ptr: other,
-            add: value,
-        }
-        | Line::Modify {
-            slot,
-            ptr: other,
-            value,
-            ..
-        }
-        | Line::Copy {
-            to: slot,
-            from: other,
-            len: value,
-        } => *slot < count && *other < count && operand_known(*value, count),
-        Line::Retag {
-            shadow,
+        Line::Param { slot, .. } | Line::ShadowParam { shadow: slot, .. } => *slot < count,
+        Line::Branch { cond: value } | Line::Result { value } => operand_known(*value, count),
+        Line::ShadowResult { from } => shadow_known(*from, count),
+        _ => true,
+    }
+}
+
+#[tactic(auto, using(crate::proofs::Parts::all_joined))]
+fn access_known(line: &Line, count: u32) -> bool
+    requires { IsAccess line.now }
+    ensures { result ≡ list_all (λ slot. nat_lt slot count) (formed.slots line.now) }
+{
+    match line {
+        Line::Loaded { shadow: slot } | Line::Free { ptr: slot } => *slot < count,
+        Line::Stored { from } => shadow_known(*from, count),
+        Line::CheckRead {
             ptr,
             ptr_shadow,
             ..
-        } => *shadow < count && *ptr < count && *ptr_shadow < count,
-        Line::Binary { slot, a, b, .. } | Line::Compare { slot, a, b, .. } => {
-            *slot < count && both_known(*a, *b, count)
         }
-        Line::Select {
-            slot,
-            cond,
-            a,
-            b,
+        | Line::CheckWrite {
+            ptr,
+            ptr_shadow,
             ..
-        } => *slot < count && operand_known(*cond, count) && both_known(*a, *b, count),
-        Line::ShadowSelect { shadow, cond, a, b } => {
-            *shadow < count && operand_known(*cond, count) && shadows_known(*a, *b, count)
+        }
+        | Line::CheckFree { ptr, ptr_shadow } => *ptr < count && *ptr_shadow < count,
+        Line::Load { slot, ptr, .. } => *slot < count && *ptr < count,
+        Line::Store { value, ptr, .. } => *ptr < count && operand_known(*value, count),
+        Line::Modify {
+            slot,
+            ptr,
+            value,
+            ..
+        } => { *slot < count && *ptr < count && operand_known(*value, count) }
+        Line::Copy { to, from, len } => {
+            *to < count && *from < count && operand_known(*len, count)
         }
         Line::CmpXchg {
             slot,
@@ -158,7 +107,7 @@ fn slots_known(line: &Line, count: u32) -> bool
             expected,
             value,
             ..
-        } => *slot < count && *ptr < count && both_known(*expected, *value, count),
+        } => { *slot < count && *ptr < count && both_known(*expected, *value, count) }
         Line::CheckCopy {
             to,
             to_shadow,
@@ -172,7 +121,131 @@ fn slots_known(line: &Line, count: u32) -> bool
                 && *from_shadow < count
                 && operand_known(*len, count)
         }
+        _ => true,
+    }
+}
+
+#[tactic(auto, using(crate::proofs::Parts::all_joined))]
+fn value_known(line: &Line, count: u32) -> bool
+    requires { IsValue line.now }
+    ensures { result ≡ list_all (λ slot. nat_lt slot count) (formed.slots line.now) }
+{
+    match line {
+        Line::Const { slot, .. } => *slot < count,
+        Line::Print { value, .. } => operand_known(*value, count),
+        Line::Move { slot, from: other } | Line::PtrToInt { slot, ptr: other } => {
+            *slot < count && *other < count
+        }
+        Line::ShadowMove { shadow, from } => *shadow < count && shadow_known(*from, count),
+        Line::Cast { slot, value, .. } | Line::Input { slot, index: value } => {
+            *slot < count && operand_known(*value, count)
+        }
+        Line::Make {
+            slot,
+            shadow: other,
+            size: value,
+            ..
+        }
+        | Line::Gep {
+            slot,
+            ptr: other,
+            add: value,
+        } => { *slot < count && *other < count && operand_known(*value, count) }
+        Line::Retag {
+            shadow,
+            ptr,
+            ptr_shadow,
+            ..
+        } => { *shadow < count && *ptr < count && *ptr_shadow < count }
+        Line::Binary { slot, a, b, .. } | Line::Compare { slot, a, b, .. } => {
+            *slot < count && both_known(*a, *b, count)
+        }
+        Line::Select {
+            slot,
+            cond,
+            a,
+            b,
+            ..
+        } => { *slot < count && operand_known(*cond, count) && both_known(*a, *b, count) }
+        Line::ShadowSelect { shadow, cond, a, b } => {
+            *shadow < count && operand_known(*cond, count) && shadows_known(*a, *b, count)
+        }
+        _ => true,
+    }
+}
+
+#[tactic(auto, using(crate::proofs::Parts::all_joined))]
+fn call_known(line: &Line, count: u32) -> bool
+    requires { IsCall line.now }
+    ensures { result ≡ list_all (λ slot. nat_lt slot count) (formed.slots line.now) }
+{
+    match line {
+        Line::Call { .. } | Line::RetagResult { .. } => true,
+        Line::TakeArg { slot, .. }
+        | Line::TakeShadowArg { shadow: slot, .. }
+        | Line::CallResult { slot }
+        | Line::ShadowCallResult { shadow: slot }
+        | Line::Spawn { slot, .. }
+        | Line::Join { handle: slot } => *slot < count,
+        Line::Arg { value, .. } => operand_known(*value, count),
+        Line::ShadowArg { from, .. } => shadow_known(*from, count),
         Line::Host { slot, args, .. } => *slot < count && args_known(args.as_slice(), count),
+        _ => true,
+    }
+}
+
+fn slots_known(line: &Line, count: u32) -> bool
+    ensures { result ≡ list_all (λ slot. nat_lt slot count) (formed.slots line.now) }
+{
+    match line {
+        Line::Turn { .. }
+        | Line::PushFrame
+        | Line::Param { .. }
+        | Line::ShadowParam { .. }
+        | Line::Branch { .. }
+        | Line::Jump { .. }
+        | Line::Result { .. }
+        | Line::ShadowResult { .. }
+        | Line::PopFrame
+        | Line::Return
+        | Line::Unreachable => flow_known(line, count),
+        Line::CheckRead { .. }
+        | Line::Load { .. }
+        | Line::Loaded { .. }
+        | Line::Stored { .. }
+        | Line::CheckWrite { .. }
+        | Line::Store { .. }
+        | Line::Modify { .. }
+        | Line::CmpXchg { .. }
+        | Line::CheckCopy { .. }
+        | Line::Copy { .. }
+        | Line::CheckFree { .. }
+        | Line::Free { .. } => access_known(line, count),
+        Line::Const { .. }
+        | Line::Move { .. }
+        | Line::ShadowMove { .. }
+        | Line::Make { .. }
+        | Line::Gep { .. }
+        | Line::Retag { .. }
+        | Line::Binary { .. }
+        | Line::Compare { .. }
+        | Line::Select { .. }
+        | Line::ShadowSelect { .. }
+        | Line::Cast { .. }
+        | Line::PtrToInt { .. }
+        | Line::Input { .. }
+        | Line::Print { .. } => value_known(line, count),
+        Line::Arg { .. }
+        | Line::ShadowArg { .. }
+        | Line::TakeArg { .. }
+        | Line::TakeShadowArg { .. }
+        | Line::Call { .. }
+        | Line::CallResult { .. }
+        | Line::ShadowCallResult { .. }
+        | Line::RetagResult { .. }
+        | Line::Spawn { .. }
+        | Line::Join { .. }
+        | Line::Host { .. } => call_known(line, count),
     }
 }
 

@@ -2,11 +2,12 @@
 //! for target code to be well formed.
 #![tactic(auto)]
 
+mod copies;
 mod line;
 mod printer;
-mod widths;
+#[cfg(test)]
+mod tests;
 mod words;
 
 pub use line::{Line, Operand, Shadow, Target, TargetFunction};
 pub use printer::text;
-pub use widths::{ty_bytes, width_bytes};

@@ -69,7 +69,7 @@ pub enum Line {
     CheckRead {
         ptr: u32,
         ptr_shadow: u32,
-        bytes: u8,
+        bytes: u32,
     },
     Load {
         slot: u32,
@@ -88,7 +88,7 @@ pub enum Line {
     CheckWrite {
         ptr: u32,
         ptr_shadow: u32,
-        bytes: u8,
+        bytes: u32,
     },
     Store {
         ty: Ty,

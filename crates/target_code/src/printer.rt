@@ -209,7 +209,7 @@ fn put_line(text: &mut Vec<u8>, line: &Line) -> Result<(), NoMemory>
                 Word::Keyword(Keyword::Read),
                 Word::Slot(*ptr),
                 Word::ShadowSlot(*ptr_shadow),
-                Word::Number(u32::from(*bytes)),
+                Word::Number(*bytes),
             ],
         ),
         Line::Load { slot, ty, ptr } => put_words(
@@ -249,7 +249,7 @@ fn put_line(text: &mut Vec<u8>, line: &Line) -> Result<(), NoMemory>
                 Word::Keyword(Keyword::Write),
                 Word::Slot(*ptr),
                 Word::ShadowSlot(*ptr_shadow),
-                Word::Number(u32::from(*bytes)),
+                Word::Number(*bytes),
             ],
         ),
         Line::Store { ty, value, ptr } => put_words(
@@ -637,7 +637,8 @@ fn put_functions(text: &mut Vec<u8>, functions: &[TargetFunction]) -> Result<(),
 /// The text of target code.
 ///
 /// # Errors
-/// Only where memory is wanting.
+///
+/// `NoMemory`: out of memory.
 pub fn text(alloc: Global, target: &Target) -> Result<Vec<u8>, NoMemory>
     ensures { IfOk result (λ text. text.items ≡ target_text target.now) }
 {

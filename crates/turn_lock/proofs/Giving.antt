@@ -14,7 +14,8 @@ use Rattle.turn_lock.specs.declared.view.HeldTurn.{HeldTurn}
 use Rattle.turn_lock.specs.declared.view.View.{View}
 use Rattle.history.specs.Merge.{stamp_of}
 use Rattle.history.specs.Histories.{is_make_step}
-use Rattle.turn_lock.specs.Weights.{number_of, sum_up_to, naming, equals, makes, latest, alloc_weight, call_weight, told_weight, turn_weight, holds_turn}
+use Rattle.history.specs.Restriction.{number_of}
+use Rattle.turn_lock.specs.Weights.{sum_up_to, naming, equals, makes, latest, alloc_weight, call_weight, told_weight, turn_weight, holds_turn}
 use Rattle.turn_lock.specs.Rule.{RuleHolds, IsHome, Slot, IsSpentOrLive, gone, there, IsConsistent, IsHolding, IsSlotHistory, all_calls, spent}
 use Rattle.turn_lock.specs.Steps.{gave, beyond}
 use Rattle.turn_lock.specs.Plays.{Extends, IsFresh}
@@ -122,7 +123,7 @@ module _ {X : Type 0} {number : X → ℕ} {entries : X → List Entry} (s : Sta
       (λ j u apart e. view_later (omega arith) (omega arith) (λ q theirs h. same q.slot (others_hold j u apart e q theirs) h) (kept.each j u e))))
 
   -- a call that is added: a Make only where the number is fresh
-  made_once : (e : Entry) → number_of e ≡ suc t.slot → (is_make_step e ≡ true → IsFresh v (suc t.slot)) → (n : ℕ) → sum_by (makes n) v.calls + sum_by (makes n) (e ∷ []) ≤ alloc_weight (equals n) v
+  made_once : (e : Entry) → number_of e.alloc ≡ suc t.slot → (is_make_step e ≡ true → IsFresh v (suc t.slot)) → (n : ℕ) → sum_by (makes n) v.calls + sum_by (makes n) (e ∷ []) ≤ alloc_weight (equals n) v
   made_once e names fresh n = let a = fits.made n in dite (ℕ_discrete (suc t.slot) n) (λ same. by_kind same (is_make_step e) refl) (λ apart. let b = makes_else n (suc t.slot) e names apart in omega arith)
     where
       by_kind : suc t.slot ≡ n → (b : Bool) → is_make_step e ≡ b → sum_by (makes n) v.calls + sum_by (makes n) (e ∷ []) ≤ alloc_weight (equals n) v
@@ -138,7 +139,7 @@ module _ {X : Type 0} {number : X → ℕ} {entries : X → List Entry} (s : Sta
       gives_turn [] (λ n h _. refl) (λ h. refl) (λ n. let a = fits.made n in omega arith) x numbered whole
       (subst Rattle.turn_lock.specs.Rule.Rising (sym same) holding.history.rising) (subst (λ es. latest es ≤ slice_index s.words 0) (sym same) holding.history.reached)
       (gave v (entries x)) (gave_is [] whole))
-      (λ (more : (e : Entry) × (entries x ≡ t.taken ++ e ∷ []) × Contains t.since (stamp_of e) × (number_of e ≡ suc t.slot) × (is_make_step e ≡ true → IsFresh v (suc t.slot))).
+      (λ (more : (e : Entry) × (entries x ≡ t.taken ++ e ∷ []) × Contains t.since (stamp_of e) × (number_of e.alloc ≡ suc t.slot) × (is_make_step e ≡ true → IsFresh v (suc t.slot))).
       let e : Entry = more.0 in
       let later : latest t.taken < stamp_of e = All-contains (λ n. latest t.taken < n) t.since (stamp_of e) holding.later more.2 in
       let reached : stamp_of e ≤ slice_index s.words 0 = All-contains (λ n. n ≤ slice_index s.words 0) t.since (stamp_of e) holding.reached more.2 in

@@ -16,5 +16,3 @@ pub mod Opening
 pub mod Histories
 pub mod Differing
 pub mod Turning
-pub mod Continuing
-pub mod Parenting

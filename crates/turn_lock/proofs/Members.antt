@@ -1,9 +1,9 @@
 -- A number of a list, by the sums over it.
 use Rattle.std.proofs.Common.{◌≡◌, ℕ, zero, suc, ◌+◌, ◌<◌, ◌≤◌, ◌≢◌, ◌⊎◌, Bool, true, false, cond, eqb, List, [], ◌∷◌, ◌++◌, length, All, Contains, sum_by, refl, sym, ap, ◌∙◌, subst, inl, inr, ⊎_elim, arith}
 use Rattle.std.proofs.lemmas.Bool.Decides.{eqb_tells}
-use Rattle.std.proofs.lemmas.List.Sums.{sum_by-cons, get_or-le-sum_by}
+use Rattle.std.proofs.lemmas.List.Sums.{sum_by-cons, sum_by_push, get_or-le-sum_by}
 use Rattle.std.proofs.lemmas.List.Elements.{All-head, All-tail, All-cons}
-use Rattle.turn_lock.specs.Weights.{equals}
+use Rattle.turn_lock.specs.Weights.{AreOnce, equals}
 use Rattle.bsan_ids.specs.Lists.{without}
 use Rattle.turn_lock.proofs.Numbers.{equals_same, equals_cases}
 
@@ -44,7 +44,7 @@ except_some n h (x ∷ xs) some_is = let both = sum_by-cons (equals n) x xs in
     (λ t. let a = t.2 in let b = t.1 in let rest = except_some n h xs (omega arith) in omega (arith, sum_by-cons h x xs, sum_by-cons (except n h) x xs)) (except_cases n h x)
 
 without_cases : (n x : ℕ) (xs : List ℕ) → ((x ≡ n) × (without n (x ∷ xs) ≡ xs)) ⊎ ((x ≢ n) × (without n (x ∷ xs) ≡ x ∷ without n xs))
-without_cases n x xs = ⊎_elim (λ t. inl (t.1, ap (λ b. cond b xs (x ∷ without n xs)) t.0)) (λ t. inr (t.1, ap (λ b. cond b xs (x ∷ without n xs)) t.0)) (eqb_tells x n)
+without_cases n x xs = ⊎_elim (λ t. inl (sym t.1, ap (λ b. cond b xs (x ∷ without n xs)) t.0)) (λ t. inr (λ same. t.1 (sym same), ap (λ b. cond b xs (x ∷ without n xs)) t.0)) (eqb_tells n x)
 
 pub sum_without : (n : ℕ) (h : ℕ → ℕ) (xs : List ℕ) → 1 ≤ sum_by (equals n) xs → sum_by h (without n xs) + h n ≡ sum_by h xs
 sum_without n h [] some_is = absurd (omega arith)
@@ -61,3 +61,25 @@ all_without P n [] h = h
 all_without P n (x ∷ xs) h = let rest = All-tail P x xs h in
     ⊎_elim (λ (t : (x ≡ n) × (without n (x ∷ xs) ≡ xs)). subst (All P) (sym t.1) rest)
     (λ (t : (x ≢ n) × (without n (x ∷ xs) ≡ x ∷ without n xs)). subst (All P) (sym t.1) (All-cons P x (without n xs) (All-head P x xs h) (all_without P n xs rest))) (without_cases n x xs)
+
+-- a number more that is not among them, and one fewer
+pub once_more : (xs : List ℕ) (n : ℕ) → ¬ (Contains xs n) → AreOnce xs → AreOnce (xs ++ n ∷ [])
+once_more xs n away are = record { once = λ m. by m (equals_cases m n) } where
+  by : (m : ℕ) → ((n ≡ m) × (equals m n ≡ 1)) ⊎ ((n ≢ m) × (equals m n ≡ 0)) → sum_by (equals m) (xs ++ n ∷ []) ≤ 1
+  by m (inl t) =
+      let none : sum_by (equals m) xs ≡ 0 = ap (λ k. sum_by (equals k) xs) (sym t.0) ∙ contains_here xs n away in
+      let here = t.1 in
+      omega (arith, sum_by_push (equals m) xs n)
+  by m (inr t) = let other = t.1 in let before = are.once m in omega (arith, sum_by_push (equals m) xs n)
+
+pub once_less : (xs : List ℕ) (n : ℕ) → Contains xs n → AreOnce xs → AreOnce (without n xs)
+once_less xs n has are = record {
+  once = λ m. let less = sum_without n (equals m) xs (contained xs n has) in let before = are.once m in omega arith;
+}
+
+pub none_left : (xs : List ℕ) (n : ℕ) → Contains xs n → AreOnce xs → ¬ (Contains (without n xs) n)
+none_left xs n has are =
+    let less = sum_without n (equals n) xs (contained xs n has) in
+    let same = equals_same n in
+    let before = are.once n in
+    not_contained (without n xs) n (omega arith)

@@ -1,11 +1,12 @@
 -- What a desk has after its turn was taken and the value exchanged, and after a split.
-use Rattle.std.proofs.Common.{◌≡◌, ℕ, suc, ◌+◌, ◌-◌, List, [], ◌∷◌, ◌++◌, get_or, Option, Some, None, IfSome, IfNone, refl, sym, ap, ◌∙◌, subst, arith}
+use Rattle.std.proofs.Common.{◌≡◌, ℕ, suc, ◌+◌, ◌-◌, List, [], ◌∷◌, ◌++◌, Contains, get_or, Option, Some, None, IfSome, IfNone, refl, sym, ap, ◌∙◌, subst, arith}
 use Rattle.atomic_table.specs.Seated.{TableId}
 use Rattle.atomic_table.specs.Table.{Me, rest}
 use Rattle.history.specs.declared.entry.Entry.{Entry}
 use Rattle.turn_lock.specs.declared.view.View.{View}
-use Rattle.turn_lock.specs.Steps.{took, chose, split_left, parted}
-use Rattle.turn_lock.specs.Plays.{DeskView, Tells, TakenAt, IsTaken}
+use Rattle.turn_lock.specs.Steps.{took, chose, split_left, parted, joins}
+use Rattle.turn_lock.specs.Plays.{DeskView, IsDesk, Tells, TakenAt, IsTaken}
+use Rattle.turn_lock.proofs.Members.{once_more, once_less, none_left}
 
 module _ {X : Type 0} (number : X → ℕ) (entries : X → List Entry) where
   abbrev pub Found : ℕ → Me (Option X) View → Me (Option X) View → Type 0
@@ -32,3 +33,17 @@ pub parted_desk : (table table' : TableId) (v w u : View) (n : ℕ) → table' �
 parted_desk table table' v w u n same chosen split none_next =
     let whole : u ≡ parted v n = split ∙ (ap split_left chosen ∙ (λ j. record v { outs = v.outs ++ n ∷ []; next = sym none_next j })) in
     λ i. record { table = same i; view = whole i }
+
+-- what a desk is stays true after a split and a join
+module _ {X : Type 0} (table table' : TableId) (m : Me (Option X) View) (same : table' ≡ table) (desk : IsDesk table m) where
+  pub split_desk : (m' m'' : Me (Option X) View) (n : ℕ) → m' ≡ (chose m.0 n, m.1) → m'' ≡ (split_left m'.0, m'.1) → ¬ (Contains m.0.outs n) → IsDesk table' m''
+  split_desk m' m'' n chosen split away =
+      let now : m'' ≡ (split_left (chose m.0 n), m.1) = split ∙ ap (λ (z : Me (Option X) View). (split_left z.0, z.1)) chosen in
+      subst (λ t. IsDesk t m'') (sym same) (subst (IsDesk table) (sym now) (desk.0, desk.1, refl, once_more m.0.outs n away desk.3))
+
+  pub joined_desk : (m' : Me (Option X) View) (u : View) → m' ≡ (joins m.0 u, m.1) → Contains m.0.outs u.name → IsDesk table' m'
+  joined_desk m' u now out =
+      subst (λ t. IsDesk t m') (sym same) (subst (IsDesk table) (sym now) (desk.0, desk.1, desk.2, once_less m.0.outs u.name out desk.3))
+
+  pub returned_name : (m' : Me (Option X) View) (u : View) → m' ≡ (joins m.0 u, m.1) → Contains m.0.outs u.name → ¬ (Contains m'.0.outs u.name)
+  returned_name m' u now out = subst (λ (z : Me (Option X) View). ¬ (Contains z.0.outs u.name)) (sym now) (none_left m.0.outs u.name out desk.3)

@@ -11,7 +11,8 @@ use Rattle.atomic_table.proofs.Lists.{set_else}
 use Rattle.history.specs.declared.entry.Entry.{Entry}
 use Rattle.turn_lock.specs.declared.view.HeldTurn.{HeldTurn}
 use Rattle.turn_lock.specs.declared.view.View.{View}
-use Rattle.turn_lock.specs.Weights.{number_of, sum_up_to, naming, equals, makes, alloc_weight, call_weight, told_weight, turn_weight, holds_turn}
+use Rattle.history.specs.Restriction.{number_of}
+use Rattle.turn_lock.specs.Weights.{sum_up_to, naming, equals, makes, alloc_weight, call_weight, told_weight, turn_weight, holds_turn}
 use Rattle.turn_lock.specs.Rule.{RuleHolds, IsSpentOrLive, gone, there, IsConsistent, IsHolding, IsSlotHistory, all_calls}
 use Rattle.turn_lock.specs.Steps.{took, held_turn}
 use Rattle.turn_lock.specs.Plays.{Tells, IsFresh}
@@ -24,8 +25,8 @@ use Rattle.turn_lock.proofs.Draws.{consistent_of}
 some_hold : (t u : HeldTurn) → Some t ≡ Some u → t ≡ u
 some_hold t u e = cc
 
-elsewhere : (n : ℕ) (h : Entry → ℕ) (x : Entry) → naming n (λ (e : Entry). cond (eqb (number_of e) n) 0 1) x ≡ 0
-elsewhere n h x = split (eqb (number_of x) n)
+elsewhere : (n : ℕ) (h : Entry → ℕ) (x : Entry) → naming n (λ (e : Entry). cond (eqb (number_of e.alloc) n) 0 1) x ≡ 0
+elsewhere n h x = split (eqb (number_of x.alloc) n)
   where
     split : (b : Rattle.std.proofs.Common.Bool) → cond {A = ℕ} b (cond b 0 1) 0 ≡ 0
     split true = refl

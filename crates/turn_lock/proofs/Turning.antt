@@ -6,7 +6,8 @@ use Rattle.turn_lock.specs.declared.view.HeldTurn.{HeldTurn}
 use Rattle.turn_lock.specs.declared.view.View.{View}
 use Rattle.history.specs.Merge.{stamp_of}
 use Rattle.history.specs.Histories.{is_make_step}
-use Rattle.turn_lock.specs.Weights.{number_of, latest}
+use Rattle.history.specs.Restriction.{number_of}
+use Rattle.turn_lock.specs.Weights.{latest}
 use Rattle.turn_lock.specs.Steps.{draws, took, gave, drew_stamp, held_turn, saw, called}
 use Rattle.turn_lock.specs.Plays.{Extends, IsFresh}
 
@@ -28,7 +29,7 @@ module _ (v w : View) (k : ℕ) (es after : List Entry) (alloc : ℕ) (slot : su
   pub gives_stamped : (n : ℕ) → w ≡ drew_stamp (took v k es) n → after ≡ es → MayGive w alloc after
   gives_stamped n is same = subst (λ (u : View). MayGive u alloc after) (sym is) (record { slot = k; taken = es; since = n ∷ [] }, refl, slot, inl same)
 
-  pub gives_call : (e : Entry) → w ≡ drew_stamp (took v k es) (stamp_of e) → after ≡ es ++ e ∷ [] → number_of e ≡ alloc → (is_make_step e ≡ true → IsFresh v alloc) → MayGive w alloc after
+  pub gives_call : (e : Entry) → w ≡ drew_stamp (took v k es) (stamp_of e) → after ≡ es ++ e ∷ [] → number_of e.alloc ≡ alloc → (is_make_step e ≡ true → IsFresh v alloc) → MayGive w alloc after
   gives_call e is same names fresh = subst (λ (u : View). MayGive u alloc after) (sym is)
       (record { slot = k; taken = es; since = stamp_of e ∷ [] }, refl, slot, inr (e, same, (0, omega arith, refl), names ∙ sym slot, λ make. subst (IsFresh v) (sym slot) (fresh make)))
 

@@ -1,11 +1,12 @@
 -- What the rule says of all desks at every moment, and what the weights of a history tell.
-use Rattle.std.specs.Prelude.{◌≡◌, ◌≢◌, ℕ, ◌+◌, ◌%◌, ◌^◌, ◌<◌, ◌≤◌, true, List, sum_by, slice_index}
+use Rattle.std.specs.Prelude.{◌≡◌, ◌≢◌, ℕ, ◌+◌, ◌%◌, ◌^◌, ◌<◌, ◌≤◌, true, List, [], ◌∷◌, sum_by, slice_index}
 use mathlib.Core.Option.{some}
 use lib.ListN.{get_elem?}
 use Rattle.history.specs.declared.entry.Entry.{Entry}
 use Rattle.turn_lock.specs.declared.view.View.{View}
 use Rattle.turn_lock.specs.Weights.{equals, stamp_weight, alloc_weight, thread_weight}
-use Rattle.turn_lock.specs.Rule.{Rising}
+use Rattle.turn_lock.specs.Rule.{Rising, newcomer}
+use Rattle.turn_lock.specs.Steps.{drew_stamp, took, gave}
 
 -- entries whose stamps rise are told by their weights
 abbrev pub WeightsTellHistories : Type 0
@@ -29,3 +30,13 @@ pub record NoDrawWraps (words : List ℕ) : Type 0 where
   pub allocs : slice_index words 1 ≤ 66560
   pub threads : slice_index words 2 ≤ 2047
   pub next : (k : ℕ) → k < 3 → (slice_index words k + 1) % 2 ^ 64 ≡ slice_index words k + 1
+
+-- a desk that takes the turn of the slot 0 twice, and each time draws a stamp and makes a call
+abbrev pub called_twice : Entry → Entry → View
+called_twice e f =
+    gave (drew_stamp (took (gave (drew_stamp (took (newcomer 0 0 []) 0 []) 1) (e ∷ [])) 0 (e ∷ [])) 2) (e ∷ f ∷ [])
+
+-- it drew the stamps 1 and 2, has seen both, made both calls and holds no turn
+abbrev pub CalledTwice : Type 0
+CalledTwice = (e f : Entry)
+    → called_twice e f ≡ record (newcomer 0 0 []) { stamps = record { own = 1 ∷ 2 ∷ []; joined = [] }; seen = 2; calls = e ∷ f ∷ [] }

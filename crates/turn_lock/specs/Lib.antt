@@ -4,4 +4,3 @@ pub mod Steps
 pub mod Plays
 pub mod Closing
 pub mod Laws
-pub mod Journals

@@ -1,5 +1,5 @@
 -- What each step on the table tells the desk that makes it.
-use Rattle.std.specs.Prelude.{◌≡◌, ◌≢◌, ◌⊎◌, ℕ, suc, ◌-◌, ◌^◌, ◌<◌, ◌≤◌, true, cond, eqb, List, [], ◌∷◌, ◌++◌, All, Contains, sum_by, Option, Some, None}
+use Rattle.std.specs.Prelude.{◌≡◌, ◌≢◌, ◌⊎◌, ℕ, suc, ◌-◌, ◌^◌, ◌<◌, ◌≤◌, true, ◌==◌, if◌then◌else◌, List, [], ◌∷◌, ◌++◌, All, Contains, sum_by, Option, Some, None}
 use Rattle.atomic_table.specs.Table.{Me, Step, rest}
 use Rattle.atomic_table.specs.Seated.{TableId}
 use Rattle.history.specs.declared.entry.Entry.{Entry}
@@ -7,7 +7,8 @@ use Rattle.turn_lock.specs.declared.view.HeldTurn.{HeldTurn}
 use Rattle.turn_lock.specs.declared.view.View.{View}
 use Rattle.history.specs.Merge.{stamp_of}
 use Rattle.history.specs.Histories.{is_make_step}
-use Rattle.turn_lock.specs.Weights.{number_of, naming, equals, makes, alloc_weight}
+use Rattle.history.specs.Restriction.{number_of}
+use Rattle.turn_lock.specs.Weights.{AreOnce, naming, equals, makes, alloc_weight}
 use Rattle.turn_lock.specs.Rule.{Rising}
 use Rattle.turn_lock.specs.Steps.{drew_stamp, drew_alloc, drew_thread, chose, took, gave}
 
@@ -23,7 +24,7 @@ module _ {X : Type 0} where
   Carries slots (Some t) c = (c ≡ (t.slot, None) ∷ []) × (t.slot < slots)
 
   abbrev pub IsDesk : TableId → Me (Option X) View → Type 0
-  IsDesk id m = (m.0.live ≡ true) × Carries id.slots m.0.turn m.1 × (m.0.next ≡ 0)
+  IsDesk id m = (m.0.live ≡ true) × Carries id.slots m.0.turn m.1 × (m.0.next ≡ 0) × AreOnce m.0.outs
 
   abbrev pub StampDrawn : Step (Option X) → Me (Option X) View → ℕ → Me (Option X) View → Type 0
   StampDrawn st m r m' = (m' ≡ (drew_stamp m.0 (suc r), m.1)) × (m.0.seen ≤ r) × (suc r < 2 ^ 64)
@@ -44,12 +45,12 @@ IsFresh v n = (1 ≤ alloc_weight (equals n) v) × (sum_by (makes n) v.calls ≡
 
 -- the entries with which a turn is given back: those that were taken, or those and one call of a stamp that was drawn since
 abbrev pub Extends : View → HeldTurn → List Entry → Type 0
-Extends v t es = (es ≡ t.taken) ⊎ ((e : Entry) × (es ≡ t.taken ++ e ∷ []) × Contains t.since (stamp_of e) × (number_of e ≡ suc t.slot) × (is_make_step e ≡ true → IsFresh v (suc t.slot)))
+Extends v t es = (es ≡ t.taken) ⊎ ((e : Entry) × (es ≡ t.taken ++ e ∷ []) × Contains t.since (stamp_of e) × (number_of e.alloc ≡ suc t.slot) × (is_make_step e ≡ true → IsFresh v (suc t.slot)))
 
 -- Of a value that was taken: its entries rise, all calls of the desk on this number are among them, and all that it was told of. Where the number is fresh, none is a Make.
 pub record Tells (n : ℕ) (v : View) (es : List Entry) : Type 0 where
   pub rising : Rising es
-  pub about : sum_by (λ (e : Entry). cond (eqb (number_of e) n) 0 1) es ≡ 0
+  pub about : sum_by (λ (e : Entry). if number_of e.alloc == n then 0 else 1) es ≡ 0
   pub calls : (h : Entry → ℕ) → sum_by (naming n h) v.calls ≤ sum_by h es
   pub told : (h : Entry → ℕ) → sum_by h es ≡ 0 → sum_by (naming n h) v.told ≡ 0
   pub fresh : IsFresh v n → sum_by (makes n) es ≡ 0

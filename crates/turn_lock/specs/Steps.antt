@@ -1,5 +1,5 @@
 -- What each step makes of a view.
-use Rattle.std.specs.Prelude.{ℕ, cond, eqb, max, List, [], ◌∷◌, ◌++◌, length, drop, Option, Some, None}
+use Rattle.std.specs.Prelude.{ℕ, max, List, [], ◌∷◌, ◌++◌, length, drop, Option, Some, None}
 use Rattle.bsan_ids.specs.Lists.{without}
 use Rattle.history.specs.declared.entry.Entry.{Entry}
 use Rattle.turn_lock.specs.declared.view.HeldTurn.{HeldTurn}

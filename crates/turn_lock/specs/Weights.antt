@@ -1,20 +1,12 @@
 -- Sums over numbers and entries, by which the rule says what stands in which view, and how often: an equation for each way of weighing.
-use Rattle.std.specs.Prelude.{ℕ, zero, suc, ◌+◌, Bool, cond, eqb, leb, List, [], ◌∷◌, max, sum_by, Option, Some, None}
+use Rattle.std.specs.Prelude.{ℕ, zero, suc, ◌+◌, ◌≤◌, ◌==◌, nat_le, if◌then◌else◌, List, [], ◌∷◌, max, sum_by, Option, Some, None}
 use Rattle.history.specs.declared.entry.Entry.{Entry}
-use Rattle.bsan_ids.specs.declared.numbers.AllocNo.{AllocNo}
 use Rattle.history.specs.Histories.{is_make_step}
+use Rattle.history.specs.Restriction.{number_of}
 use Rattle.history.specs.Merge.{stamp_of}
 use Rattle.turn_lock.specs.declared.view.HeldTurn.{HeldTurn}
 use Rattle.turn_lock.specs.declared.view.Drawn.{Drawn}
 use Rattle.turn_lock.specs.declared.view.View.{View}
-
--- the number that the entry names, 0 where it names none
-abbrev pub number_in : Option AllocNo → ℕ
-number_in None = 0
-number_in (Some a) = a.0
-
-abbrev pub number_of : Entry → ℕ
-number_of e = number_in e.alloc
 
 -- the weights of the numbers from 1 to n, added up
 abbrev pub sum_up_to : (ℕ → ℕ) → ℕ → ℕ
@@ -23,22 +15,26 @@ sum_up_to h (suc n) = sum_up_to h n + h (suc n)
 
 -- 1 for numbers above the limit
 abbrev pub above : ℕ → ℕ → ℕ
-above limit n = cond (leb n limit) 0 1
+above limit n = if nat_le n limit then 0 else 1
 
 -- 1 for this number
 abbrev pub equals : ℕ → ℕ → ℕ
-equals m n = cond (eqb n m) 1 0
+equals m n = if n == m then 1 else 0
+
+-- no number is twice among them
+pub record AreOnce (ns : List ℕ) : Type 0 where
+  pub once : (n : ℕ) → sum_by (equals n) ns ≤ 1
 
 abbrev pub one : ℕ → ℕ
 one n = 1
 
 -- the weight of the entries that name this number
 abbrev pub naming : ℕ → (Entry → ℕ) → Entry → ℕ
-naming n h e = cond (eqb (number_of e) n) (h e) 0
+naming n h e = if number_of e.alloc == n then h e else 0
 
 -- 1 for a Make of this number
 abbrev pub makes : ℕ → Entry → ℕ
-makes n e = cond (is_make_step e) (cond (eqb (number_of e) n) 1 0) 0
+makes n e = if is_make_step e then (if number_of e.alloc == n then 1 else 0) else 0
 
 module _ (h : ℕ → ℕ) where
   abbrev pub drawn : Drawn → ℕ
@@ -54,7 +50,7 @@ module _ (h : ℕ → ℕ) where
   thread_weight v = drawn v.threads
 
   abbrev pub name_weight : View → ℕ
-  name_weight v = cond v.live (h v.name) 0
+  name_weight v = if v.live then h v.name else 0
 
   abbrev pub out_weight : View → ℕ
   out_weight v = sum_by h v.outs
@@ -68,7 +64,7 @@ module _ (h : Entry → ℕ) where
 
 abbrev pub holds_turn : ℕ → Option HeldTurn → ℕ
 holds_turn k None = 0
-holds_turn k (Some t) = cond (eqb t.slot k) 1 0
+holds_turn k (Some t) = if t.slot == k then 1 else 0
 
 abbrev pub turn_weight : ℕ → View → ℕ
 turn_weight k v = holds_turn k v.turn

@@ -5,7 +5,7 @@ ghost use Rattle.turn_lock.specs.Rule.{newcomer};
 ghost use Rattle.turn_lock.specs.Closing.{AreCounts, IsWhole, AllSome, AreBlank};
 
 use crate::desk::Desk;
-use crate::turns::Turns;
+use crate::turns::{GREATEST_ALLOC, Turns};
 use atomic_table::{Closed, Table};
 use bsan_ids::{Counters, NoMemory};
 use history::Logged;
@@ -29,7 +29,7 @@ fn take_values<T: Drop>(closed: &mut Closed<Option<T>, Global>, values: &mut Vec
 
 // The words at the start, and the values in their slots.
 fn lay_out<T: Drop>(alloc: Global, values: Vec<T>) -> Result<(Vec<u64>, Vec<Option<T>>), NoMemory>
-    requires { vec_len values ≤ 65536 }
+    requires { vec_len values ≤ GREATEST_ALLOC }
     ensures words { IfOk result (λ r. r.0.items ≡ replicate (length values.items + 3) 0) }
     ensures slots { IfOk result (λ r. r.1.items ≡ map Some values.items) }
 {
@@ -44,7 +44,7 @@ impl<T: Logged> Turns<T> {
     pub fn new(alloc: Global, values: Vec<T>) -> Result<(Turns<T>, Desk<T>), NoMemory>
     where
         T: Drop,
-        requires few { vec_len values ≤ 65536 }
+        requires few { vec_len values ≤ GREATEST_ALLOC }
         requires blank { AreBlank T.number T.entries values.items }
         ensures slots { IfOk result (λ r. r.0.slots ≡ vec_len values) }
         ensures desk { IfOk result (λ r. r.1 ≡ record { table = r.0; view = newcomer 0 0 [] }) }
@@ -59,7 +59,11 @@ impl<T: Logged> Turns<T> {
     /// Ends the table. The desk that closes it is the first one, which holds no turn and has nothing
     /// out. The answer is how many numbers of each kind were drawn, of which each is one of the
     /// desk's, once, and the values: the k-th has the number k, and its entries rise by stamp and are
-    /// exactly the desk's calls on k, each once. On want of memory all is given up.
+    /// exactly the desk's calls on k, each once.
+    ///
+    /// # Errors
+    ///
+    /// `NoMemory`: out of memory; then the table is dropped with all its values.
     pub fn close(self, alloc: Global, desk: Desk<T>) -> Result<(Counters, Vec<T>), NoMemory>
     where
         T: Drop,

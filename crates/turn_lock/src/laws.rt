@@ -4,7 +4,7 @@ ghost use Rattle.std.specs.Prelude.{Option};
 ghost use Rattle.atomic_table.specs.Table.{State};
 ghost use Rattle.turn_lock.specs.declared.view.View.{View};
 ghost use Rattle.turn_lock.specs.Rule.{RuleHolds};
-ghost use Rattle.turn_lock.specs.Laws.{WeightsTellHistories, DesksDiffer, NoDrawWraps};
+ghost use Rattle.turn_lock.specs.Laws.{WeightsTellHistories, DesksDiffer, NoDrawWraps, CalledTwice};
 
 use history::Logged;
 
@@ -14,7 +14,7 @@ pub fn weights_tell_histories()
 {}
 
 /// In a state that meets the rule, two desks that are there have different names, and no number of
-/// one kind stands on two desks, or twice on one.
+/// one kind is on two desks, or twice on one.
 pub fn desks_differ<T: Logged>()
     ensures { (s : State (Option T) View) → RuleHolds T.number T.entries s → DesksDiffer s.views }
 {}
@@ -22,4 +22,9 @@ pub fn desks_differ<T: Logged>()
 /// No word that counts comes near its end, so adding one to it never wraps.
 pub fn no_draw_wraps<T: Logged>()
     ensures { (s : State (Option T) View) → RuleHolds T.number T.entries s → NoDrawWraps s.words }
+{}
+
+/// A worked example: what a desk knows after two calls on one number.
+pub fn desk_by_example()
+    ensures { CalledTwice }
 {}

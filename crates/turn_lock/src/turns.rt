@@ -19,6 +19,10 @@ use std::sync::Wait;
 /// The greatest stamp after which a desk may draw another one.
 pub const GREATEST_STAMP: u64 = 4_000_000;
 
+/// The greatest allocation number after which a desk may draw another one, and the greatest number
+/// of slots of a table.
+pub const GREATEST_ALLOC: u64 = 65_536;
+
 /// The greatest thread number for which a desk may be split, and after which it may draw another.
 pub const GREATEST_THREAD: u64 = 1023;
 
@@ -62,7 +66,7 @@ impl<T: Logged + Drop> Drop for Turns<T> {
 impl<T: Logged> Turns<T> {
     pub(crate) fn of(table: Table<Option<T>, View, (), TurnRule<T>, Global>) -> Turns<T>
         requires words { table.shared.table_id.words ≡ table.shared.table_id.slots + 3 }
-        requires small { table.shared.table_id.slots ≤ 65536 }
+        requires small { table.shared.table_id.slots ≤ GREATEST_ALLOC }
         ensures { result ≡ table.shared.table_id }
     {
         Turns { table }
@@ -95,7 +99,7 @@ impl<T: Logged> Turns<T> {
     /// numbers, for which no Make was given. The desk itself has drawn none above 65,536.
     pub fn draw_alloc(&self, desk: &mut Desk<T>) -> u64
         requires own { desk.old.table ≡ self.now }
-        requires room { All (λ n. n ≤ 65536) desk.old.view.allocs.own }
+        requires room { All (λ n. n ≤ GREATEST_ALLOC) desk.old.view.allocs.own }
         ensures desk { desk.new ≡ record { table = desk.old.table; view = drew_alloc desk.old.view result } }
         ensures fresh { IsFresh desk.new.view result }
         ensures first { 1 ≤ result }
@@ -154,7 +158,8 @@ impl<T: Logged> Turns<T> {
         requires idle { (desk.old.view.turn ≡ None) × (child.view.turn ≡ None) }
         requires out { Contains desk.old.view.outs child.view.name }
         requires alone { child.view.outs ≡ [] }
-        ensures { desk.new ≡ record { table = desk.old.table; view = joins desk.old.view child.view } }
+        ensures desk { desk.new ≡ record { table = desk.old.table; view = joins desk.old.view child.view } }
+        ensures returned { ¬ (Contains desk.new.view.outs child.view.name) }
     {
         let shared = &self.table.shared;
         shared.join_seat::<Child>(&mut desk.seat, child.into_seat());

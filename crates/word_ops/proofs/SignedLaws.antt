@@ -1,5 +1,5 @@
 -- The signed operations on words are those on the numbers that the words stand for.
-use Rattle.std.proofs.Common.{◌≡◌, ◌≢◌, ◌<◌, ◌≤◌, ℕ, zero, suc, ◌+◌, ◌-◌, ◌*◌, ◌/◌, ◌%◌, ◌^◌, pos, negsuc, neg_ℤ, Bool, true, false, if◌then◌else◌, refl, sym, ap, ◌∙◌, subst, inl, inr, arith, int_div, int_rem, int_lt}
+use Rattle.std.proofs.Common.{◌≡◌, ◌≢◌, ◌<◌, ◌≤◌, ℕ, zero, suc, ◌+◌, ◌-◌, ◌*◌, ◌/◌, ◌%◌, ◌^◌, pos, negsuc, neg_ℤ, Bool, true, false, if◌then◌else◌, refl, sym, ap, ◌∙◌, subst, inl, inr, arith, int_div, int_rem, int_lt, int_le}
 use Rattle.std.proofs.Math.Nat.{mod-eq_of_lt, mod_self, two-pow-succ, div-le_self, mod-le, add-mul-mod_self_left, pow-le-pow_right}
 use Rattle.std.proofs.lemmas.Nat.{pow_pos, pow-add}
 use Rattle.std.proofs.lemmas.Bool.Decides.{leb_tells, nat_tests}
@@ -100,8 +100,8 @@ rank_high w a some fits high =
 rank_low : (w a : ℕ) → 0 < w → a < 2 ^ (w - 1) → signed_rank w a ≡ a + 2 ^ (w - 1)
 rank_low w a some low = let h = two_halves w some in mod-eq_of_lt (omega arith)
 
-pub orders_signed : OrdersSigned
-orders_signed w a b some first second =
+less_signed : (w a b : ℕ) → 0 < w → a < 2 ^ w → b < 2 ^ w → holds cond.Slt w a b ≡ int_lt (signed w a) (signed w b)
+less_signed w a b some first second =
     let h = two_halves w some in
     elim (leb_tells (2 ^ (w - 1)) a) as (λ _. holds cond.Slt w a b ≡ int_lt (signed w a) (signed w b)) [
       | inl p ↦ elim (leb_tells (2 ^ (w - 1)) b) as (λ _. holds cond.Slt w a b ≡ int_lt (signed w a) (signed w b)) [
@@ -117,6 +117,33 @@ orders_signed w a b some first second =
             rw (p.0, q.0, x, y) (grind (arith, nat_tests))
       ]
     ]
+
+at_most_signed : (w a b : ℕ) → 0 < w → a < 2 ^ w → b < 2 ^ w → holds cond.Sle w a b ≡ int_le (signed w a) (signed w b)
+at_most_signed w a b some first second =
+    let h = two_halves w some in
+    elim (leb_tells (2 ^ (w - 1)) a) as (λ _. holds cond.Sle w a b ≡ int_le (signed w a) (signed w b)) [
+      | inl p ↦ elim (leb_tells (2 ^ (w - 1)) b) as (λ _. holds cond.Sle w a b ≡ int_le (signed w a) (signed w b)) [
+        | inl q ↦ let x = rank_high w a some first p.1 in let y = rank_high w b some second q.1 in
+            rw (p.0, q.0, x, y) (grind (arith, nat_tests))
+        | inr q ↦ let x = rank_high w a some first p.1 in let y = rank_low w b some q.1 in
+            rw (p.0, q.0, x, y) (grind (arith, nat_tests))
+      ]
+      | inr p ↦ elim (leb_tells (2 ^ (w - 1)) b) as (λ _. holds cond.Sle w a b ≡ int_le (signed w a) (signed w b)) [
+        | inl q ↦ let x = rank_low w a some p.1 in let y = rank_high w b some second q.1 in
+            rw (p.0, q.0, x, y) (grind (arith, nat_tests))
+        | inr q ↦ let x = rank_low w a some p.1 in let y = rank_low w b some q.1 in
+            rw (p.0, q.0, x, y) (grind (arith, nat_tests))
+      ]
+    ]
+
+pub orders_signed : OrdersSigned
+orders_signed w a b some first second =
+    record {
+      less = less_signed w a b some first second;
+      at_most = at_most_signed w a b some first second;
+      greater = less_signed w b a some second first;
+      at_least = at_most_signed w b a some second first;
+    }
 
 -- the shift, by the sign
 shift : (w a b : ℕ) (p : Bool) → a < 2 ^ w

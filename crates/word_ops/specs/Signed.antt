@@ -1,5 +1,5 @@
 -- Words read as signed numbers, by two's complement, and what the signed operations make of these numbers.
-use Rattle.std.specs.Prelude.{◌≡◌, ◌≢◌, ◌<◌, ◌≤◌, ℕ, ◌-◌, ◌/◌, ◌%◌, ◌^◌, ℤ, pos, negsuc, int_div, int_rem, int_lt, if◌then◌else◌}
+use Rattle.std.specs.Prelude.{◌≡◌, ◌≢◌, ◌<◌, ◌≤◌, ℕ, ◌-◌, ◌/◌, ◌%◌, ◌^◌, ℤ, pos, negsuc, int_div, int_rem, int_lt, int_le, if◌then◌else◌}
 use Rattle.ir_ast.specs.Arithmetic.{word, is_negative, shifted_right, worked, holds, cast_word}
 use Rattle.ir_ast.specs.declared.operators.BinaryOp.TheVariants as op
 use Rattle.ir_ast.specs.declared.operators.Cond.TheVariants as cond
@@ -29,9 +29,15 @@ abbrev pub LeavesSigned : Type 0
 LeavesSigned = (w a b : ℕ) → 0 < w → a < 2 ^ w → b < 2 ^ w → b ≢ 0
     → worked op.Srem w a b ≡ word (word_for w (int_rem (signed w a) (signed w b)))
 
+-- two words are compared as these numbers are
+pub record IsOrdered (w a b : ℕ) : Type 0 where
+  pub less : holds cond.Slt w a b ≡ int_lt (signed w a) (signed w b)
+  pub at_most : holds cond.Sle w a b ≡ int_le (signed w a) (signed w b)
+  pub greater : holds cond.Sgt w a b ≡ int_lt (signed w b) (signed w a)
+  pub at_least : holds cond.Sge w a b ≡ int_le (signed w b) (signed w a)
+
 abbrev pub OrdersSigned : Type 0
-OrdersSigned = (w a b : ℕ) → 0 < w → a < 2 ^ w → b < 2 ^ w
-    → holds cond.Slt w a b ≡ int_lt (signed w a) (signed w b)
+OrdersSigned = (w a b : ℕ) → 0 < w → a < 2 ^ w → b < 2 ^ w → IsOrdered w a b
 
 abbrev pub ShiftsSigned : Type 0
 ShiftsSigned = (w a b : ℕ) → 0 < w → a < 2 ^ w → shifted_right w a b ≡ word_for w (halved (signed w a) b)

@@ -1,9 +1,9 @@
 use Rattle.std.proofs.Common.{◌+◌, Option, List, take, sym, subst}
 use Rattle.ir_ast.specs.declared.program.Function.{Function}
 use Rattle.ir_rules.specs.declared.rule.Fault.{Fault}
-use Rattle.ir_rules.specs.Least.{IsLeast}
-use Rattle.ir_assigned.specs.Faults.{AnyOf, FunctionFault}
-use Rattle.ir_assigned.proofs.Firsts.{any_next, any_all}
+use Rattle.ir_rules.specs.Least.{IsLeast, AnyOf}
+use Rattle.ir_assigned.specs.Faults.{FunctionFault}
+use Rattle.ir_rules.proofs.Any.{any-next, any-all}
 use Rattle.ir_assigned.proofs.Found.{program_least}
 use Rattle.ir_assigned.proofs.unassigned.Goals as goal
 
@@ -14,7 +14,7 @@ loop-function-preserved c =
     let f = c.function-item.result in
     let o = c.in_ok-fault.fault in
     subst (λ (z : Option Fault). IsLeast (AnyOf FunctionFault (take (i + 1) fs)) z) (sym c.lesser_fault-first.ensures)
-    (any_next FunctionFault fs i f c.loop-function.first o c.loop-function-test.true c.loop-function.invariant
+    (any-next FunctionFault fs i f c.loop-function.first o c.loop-function-test.true c.loop-function.invariant
     (subst (λ (z : Function). IsLeast (FunctionFault z) o) c.function-item.is c.in_ok-fault.ensures))
 
 pub returns : goal.returns
@@ -22,4 +22,4 @@ returns c =
     let fs = c.as_slice-functions.result.now in
     program_least c.args.program.now c.loop-function.first
     (subst (λ (z : List Function). IsLeast (AnyOf FunctionFault z) c.loop-function.first) c.as_slice-functions.ensures
-    (any_all FunctionFault fs c.loop-function.function-index c.loop-function.first c.loop-function-test.false c.loop-function.invariant))
+    (any-all FunctionFault fs c.loop-function.function-index c.loop-function.first c.loop-function-test.false c.loop-function.invariant))

@@ -7,6 +7,6 @@ pub block_code-requires-clause-end : goal.block_code-requires-clause-end
 block_code-requires-clause-end c =
     block_room c.args.blocks.now c.loop-block.block-index c.block-item.result c.loop-block.number (blocks_end c.args.first c.args.blocks.now) (omega arith) c.block-item.is c.loop-block.invariant.end c.requires.end
 
-pub behind-number-requires : goal.behind-number-requires
-behind-number-requires c =
+pub after-number-requires : goal.after-number-requires
+after-number-requires c =
     block_room c.args.blocks.now c.loop-block.block-index c.block-item.result c.loop-block.number (blocks_end c.args.first c.args.blocks.now) (omega arith) c.block-item.is c.loop-block.invariant.end c.requires.end

@@ -1,7 +1,7 @@
 use Rattle.std.proofs.Common.{ap, ◌∙◌}
-use Rattle.ir_rules.specs.Least.{IsLeast}
+use Rattle.ir_rules.specs.Least.{IsLeast, AnyOf}
 use Rattle.ir_rules.specs.Seen.{seen}
-use Rattle.ir_assigned.specs.Faults.{AnyOf, EventFault, FunctionFault}
+use Rattle.ir_assigned.specs.Faults.{EventFault, FunctionFault}
 use Rattle.ir_assigned.proofs.Found.{function_least, no_blocks, if_ok_map, some_blocks}
 use Rattle.ir_assigned.proofs.function.function_fault.Goals as goal
 

@@ -3,7 +3,7 @@ use Rattle.ir_rules.specs.Seen.{seen, event_of}
 use Rattle.ir_rules.specs.declared.events.Occurrence.{Occurrence}
 use Rattle.ir_assigned.specs.declared.mentions.Mention.{Mention}
 use Rattle.ir_assigned.specs.Mentions.{register_of, mention_of, mention_if, mentions, mentions_in}
-use Rattle.ir_assigned.proofs.Firsts.{take_whole}
+use Rattle.ir_rules.proofs.Any.{take_whole}
 use Rattle.ir_assigned.proofs.Table.{mentions_next, register_is}
 use Rattle.ir_assigned.proofs.mentions.note_mentions.Goals as goal
 

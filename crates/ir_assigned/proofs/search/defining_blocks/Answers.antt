@@ -1,7 +1,7 @@
 use Rattle.std.proofs.Common.{◌≡◌, false, List, Bool, length, replicate, take, get_or, sym, ap, ◌∙◌, arith}
 use Rattle.ir_assigned.specs.declared.mentions.Mention.{Mention}
 use Rattle.ir_assigned.specs.Mentions.{define, defined}
-use Rattle.ir_assigned.proofs.Firsts.{take_whole}
+use Rattle.ir_rules.proofs.Any.{take_whole}
 use Rattle.ir_assigned.proofs.Scan.{length_defined, defined_next, length_blank}
 use Rattle.ir_assigned.proofs.search.defining_blocks.Goals as goal
 

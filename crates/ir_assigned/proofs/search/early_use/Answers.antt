@@ -2,9 +2,11 @@ use Rattle.std.proofs.Common.{◌≡◌, false, ◌+◌, ◌<◌, List, Bool, Op
 use Rattle.ir_rules.specs.declared.rule.Fault.{Fault}
 use Rattle.ir_rules.specs.Least.{IsLeast, lesser}
 use Rattle.ir_assigned.specs.declared.mentions.Mention.{Mention}
-use Rattle.ir_assigned.specs.Graph.{In}
+use Rattle.std.specs.Prelude.{Contains}
+use Rattle.ir_rules.proofs.Least.{least-same}
+use Rattle.ir_assigned.proofs.Firsts.{In, contains_in, in_contains}
 use Rattle.ir_assigned.specs.Mentions.{define, defined, mention_fault, scan}
-use Rattle.ir_assigned.proofs.Firsts.{take_whole}
+use Rattle.ir_rules.proofs.Any.{take_whole}
 use Rattle.ir_assigned.proofs.Scan.{length_defined, defined_next, scan_next, length_blank}
 use Rattle.ir_assigned.proofs.search.early_use.Goals as goal
 
@@ -44,4 +46,8 @@ loop-mention-preserved c =
     }
 
 pub returns : goal.returns
-returns c = subst (λ (z : List Mention). IsLeast (In (scan c.args.entered.now (replicate (length c.args.entered.now) false) z)) c.loop-mention.first) (take_whole c.args.mentions.now c.loop-mention.mention-index c.loop-mention-test.false) c.loop-mention.invariant.first
+returns c =
+    let blank = replicate (length c.args.entered.now) false in
+    let faults = scan c.args.entered.now blank c.args.mentions.now in
+    least-same (In faults) (Contains faults) c.loop-mention.first (in_contains faults) (contains_in faults)
+    (subst (λ (z : List Mention). IsLeast (In (scan c.args.entered.now blank z)) c.loop-mention.first) (take_whole c.args.mentions.now c.loop-mention.mention-index c.loop-mention-test.false) c.loop-mention.invariant.first)

@@ -1,6 +1,6 @@
 use Rattle.std.proofs.Common.{◌≡◌, false, length, replicate, take}
 use Rattle.ir_rules.specs.Least.{IsLeast}
-use Rattle.ir_assigned.specs.Graph.{In}
+use Rattle.ir_assigned.proofs.Firsts.{In}
 use Rattle.ir_assigned.specs.Mentions.{defined, scan}
 use Rattle.ir_assigned.proofs.search.early_use.Given as goal
 

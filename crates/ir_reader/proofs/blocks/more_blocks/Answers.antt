@@ -20,7 +20,7 @@ returns-in_err-next-clause-read c =
     let p = err_from_is_err_and c.from_residual.result c.from_residual.ensures.1 in
     rw (p.1, p.2) (breaks_as (λ _. IsBlock c.args.version) spell_block AfterGoal (block_at c.args.version) (block_phrase c.args.version) after_block (begins_if is_any_word) (block_begins c.args.version) AfterBlocks (λ rest e. e.0) (blocks_follow c.args.version) (counts c.loop-alloc.behind)
     c.args.text.now c.in_err-next.field-0.0 c.loop-alloc.found (lexes c.args.text.now c.loop-alloc.rest.now) (with_front c.args.front (more_blocks_at c.args.version (counts c.args.before) (lexes c.args.text.now c.args.tokens.now)))
-    (sym c.begins_any_word.ensures ∙ c.loop-alloc-test.true) c.in_err-next.ensures.read c.loop-alloc.invariant.so_far)
+    (sym (c.begins_any_word.ensures c.args.text.now) ∙ c.loop-alloc-test.true) c.in_err-next.ensures.read c.loop-alloc.invariant.so_far)
 
 pub loop-alloc-smaller : goal.loop-alloc-smaller
 loop-alloc-smaller c = falls (λ _. IsBlock c.args.version) spell_block AfterGoal (block_at c.args.version) (block_phrase c.args.version) after_block (begins_if is_any_word) (block_begins c.args.version) AfterBlocks (λ rest e. e.0) (blocks_follow c.args.version) (counts c.loop-alloc.behind)
@@ -33,7 +33,7 @@ loop-alloc-preserved c =
     let behind : counts c.in_ok-next.last ≡ after_block (counts c.loop-alloc.behind) c.in_ok-next.next = c.in_ok-next.ensures.behind in
     let more = goes_on (λ _. IsBlock c.args.version) spell_block AfterGoal (block_at c.args.version) (block_phrase c.args.version) after_block (begins_if is_any_word) (block_begins c.args.version) AfterBlocks (λ rest e. e.0) (blocks_follow c.args.version) (counts c.loop-alloc.behind)
     c.loop-alloc.found (lexes c.args.text.now c.loop-alloc.rest.now) c.in_ok-next.next (lexes c.args.text.now c.in_ok-next.after.now) total
-    (sym c.begins_any_word.ensures ∙ c.loop-alloc-test.true) c.in_ok-next.ensures.read c.loop-alloc.invariant.so_far in
+    (sym (c.begins_any_word.ensures c.args.text.now) ∙ c.loop-alloc-test.true) c.in_ok-next.ensures.read c.loop-alloc.invariant.so_far in
     let count : c.in_ok-next.last.instructions ≡ c.loop-alloc.behind.instructions + block_instructions c.in_ok-next.next = ap (λ (z : ℕ × ℕ). z.0) behind in
     record {
       so_far = subst (λ (z : List Block). with_front z (more_blocks_at c.args.version (counts c.in_ok-next.last) (lexes c.args.text.now c.in_ok-next.after.now)) ≡ total) (sym c.in_ok-push.ensures.ok)
@@ -52,7 +52,7 @@ pub returns-clause-read : goal.returns-clause-read
 unfolding more_blocks_at
 returns-clause-read c = is_done (λ _. IsBlock c.args.version) spell_block AfterGoal (block_at c.args.version) (block_phrase c.args.version) after_block (begins_if is_any_word) (block_begins c.args.version) AfterBlocks (λ rest e. e.0) (blocks_follow c.args.version) (counts c.loop-alloc.behind)
     c.loop-alloc.found (lexes c.args.text.now c.loop-alloc.rest.now) (with_front c.args.front (more_blocks_at c.args.version (counts c.args.before) (lexes c.args.text.now c.args.tokens.now)))
-    (sym c.begins_any_word.ensures ∙ c.loop-alloc-test.false) c.loop-alloc.invariant.so_far
+    (sym (c.begins_any_word.ensures c.args.text.now) ∙ c.loop-alloc-test.false) c.loop-alloc.invariant.so_far
 
 pub returns-clause-behind : goal.returns-clause-behind
 returns-clause-behind c = c.loop-alloc.invariant.counted

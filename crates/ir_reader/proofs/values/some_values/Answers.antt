@@ -4,7 +4,7 @@ use Rattle.ir_reader.proofs.ValueSteps.{values_some, values_none}
 use Rattle.ir_reader.proofs.values.some_values.Goals as goal
 
 pub returns-then-begins_any_word : goal.returns-then-begins_any_word
-returns-then-begins_any_word c = rw (values_some (lexes c.args.text.now c.args.tokens.now) (sym c.begins_any_word.ensures ∙ c.if-begins_any_word.true)) c.values.ensures
+returns-then-begins_any_word c = rw (values_some (lexes c.args.text.now c.args.tokens.now) (sym (c.begins_any_word.ensures c.args.text.now) ∙ c.if-begins_any_word.true)) c.values.ensures
 
 pub returns-else-begins_any_word : goal.returns-else-begins_any_word
-returns-else-begins_any_word c = rw (values_none (lexes c.args.text.now c.args.tokens.now) (sym c.begins_any_word.ensures ∙ c.if-begins_any_word.false)) (rw c.new.ensures refl)
+returns-else-begins_any_word c = rw (values_none (lexes c.args.text.now c.args.tokens.now) (sym (c.begins_any_word.ensures c.args.text.now) ∙ c.if-begins_any_word.false)) (rw c.new.ensures refl)

@@ -1,18 +1,18 @@
 use Rattle.std.proofs.Common.{◌+◌, List, Option, take, get_or, sym, subst, ◌⊎◌}
 use Rattle.ir_ast.specs.declared.program.Inst.{Inst}
 use Rattle.ir_rules.specs.declared.rule.Fault.{Fault}
-use Rattle.ir_rules.specs.Least.{IsLeast}
+use Rattle.ir_rules.specs.Least.{IsLeast, AnyOf}
 use Rattle.ir_rules.specs.Occurrences.{function_events, jump_goals}
 use Rattle.ir_rules.specs.Walk.{held_in}
 use Rattle.ir_rules.proofs.Least.{least-or}
-use Rattle.ir_verify.specs.Faults.{AnyOf, InstFault, RetFault, GoalFault, BlockFault}
+use Rattle.ir_verify.specs.Faults.{InstFault, RetFault, GoalFault, BlockFault}
 use Rattle.ir_rules.specs.Checks.{op_fault}
-use Rattle.ir_verify.proofs.Any.{any-next, any-all}
+use Rattle.ir_rules.proofs.Any.{any-next, any-all, none_in}
 use Rattle.ir_verify.proofs.Said.{least_op, least_ret}
 use Rattle.ir_verify.proofs.functions.block_fault.Goals as goal
 
 pub loop-inst-init : goal.loop-inst-init
-loop-inst-init c = λ x h. h
+loop-inst-init c = λ x h. none_in h.0 h.1
 
 pub loop-inst-preserved : goal.loop-inst-preserved
 loop-inst-preserved c =

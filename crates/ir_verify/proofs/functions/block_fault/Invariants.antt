@@ -1,7 +1,7 @@
 use Rattle.std.proofs.Common.{take}
-use Rattle.ir_rules.specs.Least.{IsLeast}
+use Rattle.ir_rules.specs.Least.{IsLeast, AnyOf}
 use Rattle.ir_rules.specs.Occurrences.{function_events}
-use Rattle.ir_verify.specs.Faults.{AnyOf, InstFault}
+use Rattle.ir_verify.specs.Faults.{InstFault}
 use Rattle.ir_verify.proofs.functions.block_fault.Given as goal
 
 abbrev pub invariant-loop-inst : goal.invariant-loop-inst

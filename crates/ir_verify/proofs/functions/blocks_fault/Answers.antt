@@ -1,13 +1,13 @@
 use Rattle.std.proofs.Common.{◌+◌, List, Option, take, sym, subst}
 use Rattle.ir_ast.specs.declared.program.Block.{Block}
 use Rattle.ir_rules.specs.declared.rule.Fault.{Fault}
-use Rattle.ir_rules.specs.Least.{IsLeast}
-use Rattle.ir_verify.specs.Faults.{AnyOf, BlockFault}
-use Rattle.ir_verify.proofs.Any.{any-next, any-all}
+use Rattle.ir_rules.specs.Least.{IsLeast, AnyOf}
+use Rattle.ir_verify.specs.Faults.{BlockFault}
+use Rattle.ir_rules.proofs.Any.{any-next, any-all, none_in}
 use Rattle.ir_verify.proofs.functions.blocks_fault.Goals as goal
 
 pub loop-block-init : goal.loop-block-init
-loop-block-init c = λ x h. h
+loop-block-init c = λ x h. none_in h.0 h.1
 
 pub loop-block-preserved : goal.loop-block-preserved
 loop-block-preserved c =

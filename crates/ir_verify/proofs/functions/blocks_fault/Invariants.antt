@@ -1,6 +1,6 @@
 use Rattle.std.proofs.Common.{take}
-use Rattle.ir_rules.specs.Least.{IsLeast}
-use Rattle.ir_verify.specs.Faults.{AnyOf, BlockFault}
+use Rattle.ir_rules.specs.Least.{IsLeast, AnyOf}
+use Rattle.ir_verify.specs.Faults.{BlockFault}
 use Rattle.ir_verify.proofs.functions.blocks_fault.Given as goal
 
 abbrev pub invariant-loop-block : goal.invariant-loop-block

@@ -1,10 +1,10 @@
 use Rattle.std.proofs.Common.{◌≡◌, List, Option, ◌∙◌, ap, sym, subst, ◌⊎◌}
 use Rattle.ir_rules.specs.declared.rule.Fault.{Fault}
-use Rattle.ir_rules.specs.Least.{IsLeast}
+use Rattle.ir_rules.specs.Least.{IsLeast, AnyOf}
 use Rattle.ir_rules.specs.Occurrences.{Event, function_events}
 use Rattle.ir_rules.specs.Seen.{seen}
 use Rattle.ir_rules.proofs.Least.{least-or}
-use Rattle.ir_verify.specs.Faults.{AnyOf, RegisterFault, LabelFault, BlockFault, FunctionFault}
+use Rattle.ir_verify.specs.Faults.{RegisterFault, LabelFault, BlockFault, FunctionFault}
 use Rattle.ir_verify.proofs.functions.function_fault.Goals as goal
 
 pub returns : goal.returns

@@ -13,7 +13,7 @@ pub returns : goal.returns
 returns c =
     let blocks = c.args.function.now.blocks in
     let names : List Named = map (λ (b : Block). b.label) blocks in
-    let same : map (λ (n : Bor Named). n.now) c.as_slice-names.result.now ≡ names = ap (map (λ (n : Bor Named). n.now)) c.as_slice-names.ensures.value ∙ c.in_ok-labels.ensures ∙ ap (map (λ (b : Block). b.label)) c.as_slice-blocks.ensures in
+    let same : map (λ (n : Bor Named). n.now) c.as_slice.result.now ≡ names = ap (map (λ (n : Bor Named). n.now)) c.as_slice.ensures.value ∙ c.in_ok-labels.ensures ∙ ap (map (λ (b : Block). b.label)) c.as_slice-blocks.ensures in
     let twice = c.in_ok-twice.twice in
     let first = c.first_block_fault-first.result in
     let of_twice : IsLeast (TwiceFault names) twice = subst (λ (z : List Named). IsLeast (TwiceFault z) twice) same c.in_ok-twice.ensures in

@@ -12,7 +12,7 @@ use Rattle.ir_verify.proofs.functions.register_fault.Goals as goal
 pub returns : goal.returns
 returns c =
     let es = seen c.args.occurrences.now in
-    let same : map (λ (n : Bor Named). n.now) c.as_slice-names.result.now ≡ defined es = ap (map (λ (n : Bor Named). n.now)) c.as_slice-names.ensures.value ∙ c.in_ok-registers.ensures in
+    let same : map (λ (n : Bor Named). n.now) c.as_slice.result.now ≡ defined es = ap (map (λ (n : Bor Named). n.now)) c.as_slice.ensures.value ∙ c.in_ok-registers.ensures in
     let wrong = c.wrong_uses-wrong.result in
     let twice = c.in_ok-twice.twice in
     let of_twice : IsLeast (TwiceFault (defined es)) twice = subst (λ (z : List Named). IsLeast (TwiceFault z) twice) same c.in_ok-twice.ensures in

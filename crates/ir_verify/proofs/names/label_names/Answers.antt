@@ -1,6 +1,6 @@
 use Rattle.std.proofs.Common.{◌∙◌, ap, map}
 use Rattle.ir_ast.specs.declared.program.Block.{Block}
-use Rattle.ir_rules.proofs.Uses.{take_whole}
+use Rattle.ir_rules.proofs.Any.{take_whole}
 use Rattle.ir_verify.proofs.Steps.{mapped-next}
 use Rattle.ir_verify.proofs.names.label_names.Goals as goal
 

@@ -1,13 +1,13 @@
 use Rattle.std.proofs.Common.{◌+◌, List, Option, take, sym, subst}
 use Rattle.ir_ast.specs.declared.program.Function.{Function}
 use Rattle.ir_rules.specs.declared.rule.Fault.{Fault}
-use Rattle.ir_rules.specs.Least.{IsLeast}
-use Rattle.ir_verify.specs.Faults.{AnyOf, FunctionFault}
-use Rattle.ir_verify.proofs.Any.{any-next, any-all}
+use Rattle.ir_rules.specs.Least.{IsLeast, AnyOf}
+use Rattle.ir_verify.specs.Faults.{FunctionFault}
+use Rattle.ir_rules.proofs.Any.{any-next, any-all, none_in}
 use Rattle.ir_verify.proofs.programs.functions_fault.Goals as goal
 
 pub loop-function-init : goal.loop-function-init
-loop-function-init c = λ x h. h
+loop-function-init c = λ x h. none_in h.0 h.1
 
 pub loop-function-preserved : goal.loop-function-preserved
 loop-function-preserved c =

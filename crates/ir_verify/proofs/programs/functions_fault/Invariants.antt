@@ -1,6 +1,6 @@
 use Rattle.std.proofs.Common.{take}
-use Rattle.ir_rules.specs.Least.{IsLeast}
-use Rattle.ir_verify.specs.Faults.{AnyOf, FunctionFault}
+use Rattle.ir_rules.specs.Least.{IsLeast, AnyOf}
+use Rattle.ir_verify.specs.Faults.{FunctionFault}
 use Rattle.ir_verify.proofs.programs.functions_fault.Given as goal
 
 abbrev pub invariant-loop-function : goal.invariant-loop-function

@@ -1,9 +1,9 @@
 use Rattle.std.proofs.Common.{Option, map, sym, subst, ◌⊎◌}
 use Rattle.ir_ast.specs.declared.program.Function.{Function}
 use Rattle.ir_rules.specs.declared.rule.Fault.{Fault}
-use Rattle.ir_rules.specs.Least.{IsLeast}
+use Rattle.ir_rules.specs.Least.{IsLeast, AnyOf}
 use Rattle.ir_rules.proofs.Least.{least-or}
-use Rattle.ir_verify.specs.Faults.{AnyOf, TwiceFault, NoMainFault, FunctionFault, ProgramFault}
+use Rattle.ir_verify.specs.Faults.{TwiceFault, NoMainFault, FunctionFault, ProgramFault}
 use Rattle.ir_verify.proofs.Said.{least_main}
 use Rattle.ir_verify.proofs.programs.program_fault.Goals as goal
 

@@ -1,10 +1,10 @@
 use Rattle.std.proofs.Common.{[], ◌∷◌, Option, sym, subst}
 use Rattle.ir_ast.specs.declared.program.Jump.{Jump}
 use Rattle.ir_rules.specs.declared.rule.Fault.{Fault}
-use Rattle.ir_rules.specs.Least.{IsLeast}
+use Rattle.ir_rules.specs.Least.{IsLeast, AnyOf}
 use Rattle.ir_rules.specs.Occurrences.{jump_goals}
-use Rattle.ir_verify.specs.Faults.{AnyOf, GoalFault}
-use Rattle.ir_verify.proofs.Any.{any-one, any-two}
+use Rattle.ir_verify.specs.Faults.{GoalFault}
+use Rattle.ir_rules.proofs.Any.{any-one, any-two}
 use Rattle.ir_verify.proofs.Said.{least_goal}
 use Rattle.ir_verify.proofs.targets.goals_fault.Goals as goal
 

@@ -3,7 +3,7 @@ use Rattle.ir_ast.specs.declared.program.Named.{Named}
 use Rattle.ir_rules.specs.Rules.{defined}
 use Rattle.ir_rules.specs.declared.events.Occurrence.{Occurrence}
 use Rattle.ir_rules.specs.Seen.{seen, event_of, event_by, holds_of}
-use Rattle.ir_rules.proofs.Uses.{take_whole}
+use Rattle.ir_rules.proofs.Any.{take_whole}
 use Rattle.ir_verify.proofs.Seconds.{defined_adds, defined_skips}
 use Rattle.ir_verify.proofs.twice.definitions.Goals as goal
 use Rattle.ir_verify.proofs.twice.definitions.Goals.{in-Defines+in_ok-push-in-Defines, in-Uses}

@@ -4,5 +4,5 @@ use Rattle.ir_verify.specs.Counts.{times_in, up_to_two}
 use Rattle.ir_verify.proofs.Seconds.{Seconds, times}
 use Rattle.ir_verify.proofs.twice.second_definitions.Given as goal
 
-abbrev pub invariant-loop-place : goal.invariant-loop-place
-invariant-loop-place l = ((q : List ℕ) → times_in l.table q ≡ up_to_two (times q (take l.place (map (λ r. r.now) l.names)))) × IsLeast (Seconds (take l.place (map (λ r. r.now) l.names))) l.first
+abbrev pub invariant-loop-named : goal.invariant-loop-named
+invariant-loop-named l = ((q : List ℕ) → times_in l.table q ≡ up_to_two (times q (take l.named-index (map (λ r. r.now) l.names)))) × IsLeast (Seconds (take l.named-index (map (λ r. r.now) l.names))) l.first

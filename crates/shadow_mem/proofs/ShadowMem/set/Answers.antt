@@ -1,5 +1,6 @@
 use Rattle.std.proofs.Common.{◌≡◌, ◌+◌, ◌≤◌, length, refl, arith, sym, subst, ap, ◌∙◌, replicate}
-use Rattle.shadow_mem.specs.Origins.{Fragments, frags_from, with_middle}
+use Rattle.history.specs.Memory.{put}
+use Rattle.shadow_mem.specs.Origins.{Fragments, frags_from}
 use Rattle.shadow_mem.proofs.Shadows.{length-frags_from, IsShadow-set, frags-set, size-set}
 use Rattle.shadow_mem.proofs.ShadowMem.set.Goals as goal
 
@@ -20,7 +21,7 @@ returns-clause-frags c =
     let long : length (frags_from 0 c.self.inside.map.bytes) ≡ length c.self.inside.map.bytes = length-frags_from 0 c.self.inside.map.bytes in
     let within : c.args.span.start + c.args.span.len ≤ length (frags_from 0 c.self.inside.map.bytes) = subst (λ (s : Fragments). c.args.span.start + c.args.span.len ≤ length s.frags) (sym c.self.view_is) c.requires.within in
     frags-set c.args.span.start c.args.span.len (c.args.span.start + c.args.span.len) c.args.origin c.self.inside.map c.set_run.new.self refl (omega (arith, long, within)) c.set_run.ensures.bytes
-    ∙ ap (λ (s : Fragments). with_middle c.args.span.start (c.args.span.start + c.args.span.len) (frags_from c.args.span.start (replicate c.args.span.len c.args.origin)) s.frags) c.self.view_is
+    ∙ ap (λ (s : Fragments). put c.args.span.start (frags_from c.args.span.start (replicate c.args.span.len c.args.origin)) s.frags) c.self.view_is
 
 pub returns-clause-size : goal.returns-clause-size
 returns-clause-size c =

@@ -11,7 +11,7 @@ use Rattle.runs.proofs.ReplayRight.{replay_is_right}
 use Rattle.std.proofs.Common.{refl}
 use Rattle.source_sem.specs.Starting.{main_of, main_start}
 use Rattle.source_sem.specs.Source.{source}
-use Rattle.source_runs.specs.Setting.{allowed}
+use Rattle.source_sem.specs.Records.{allowed}
 use Rattle.source_runs.proofs.laws.logs_are_one_run.Goals as goal
 
 pub returns-clause-logs : goal.returns-clause-logs

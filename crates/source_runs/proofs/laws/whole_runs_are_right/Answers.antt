@@ -4,7 +4,7 @@ use Rattle.runs.proofs.ObjectLaws.{objects_make_alone}
 use Rattle.runs.proofs.WholeRuns.{whole_runs_are_right, numbers_differ}
 use Rattle.source_sem.specs.Source.{source}
 use Rattle.source_sem.specs.Starting.{setting_of, main_of, main_start}
-use Rattle.source_runs.specs.Setting.{allowed}
+use Rattle.source_sem.specs.Records.{allowed}
 use Rattle.source_runs.proofs.Erasing.{right_records_erase}
 use Rattle.source_runs.proofs.laws.whole_runs_are_right.Goals as goal
 

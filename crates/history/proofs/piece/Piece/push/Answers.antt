@@ -21,6 +21,7 @@ invariant_of-self-2 c =
       short = omega (arith, ap length bytes, length-append p.bytes.items (c.args.byte ∷ []));
       long = omega (arith, ap length bytes, ap length frags, length-append p.bytes.items (c.args.byte ∷ []), length-append (fragments_of p.runs.items) (c.args.frag ∷ []), c.self.invariant.long);
       small = c.push_fragment.ensures.small;
+      few = omega (arith, c.push_fragment.ensures.few, ap length c.reserve-2.ensures.items, ap length bytes, length-append p.bytes.items (c.args.byte ∷ []), c.self.invariant.few);
     }
 
 pub returns-clause-ok : goal.returns-clause-ok

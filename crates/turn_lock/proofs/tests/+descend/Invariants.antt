@@ -1,4 +1,0 @@
-use Rattle.turn_lock.proofs.tests.+descend.Given as goal
-
-abbrev pub decreases-descend : goal.decreases-descend
-decreases-descend g l = l.depth
