@@ -167,3 +167,9 @@ pub newest-stored : (root : Tag) (size : ℕ) (nodes : List Node) (tag : Tag) �
 newest-stored root size nodes tag some h i lt =
     let all : All (λ (n : Eager). n.tag.0 < tag.0) (eager_nodes nodes) = subst (λ (t : Tree). All (λ (n : Eager). n.tag.0 < tag.0) t.nodes) (eager_with-some root size nodes some) h in
     subst (λ (n : Eager). n.tag.0 < tag.0) (eager_at nodes i lt) (all i (eager_node nodes no_node) (omega (arith, lt, length-eager nodes)))
+
+pub newest-of : (root : Tag) (size : ℕ) (nodes : List Node) (tag : Tag) → 1 ≤ length nodes → ((i : ℕ) → i < length nodes → (node_at nodes i).tag.0 < tag.0) → All (λ (n : Eager). n.tag.0 < tag.0) (eager_with root size nodes).nodes
+newest-of root size nodes tag some h =
+    subst (λ (t : Tree). All (λ (n : Eager). n.tag.0 < tag.0) t.nodes) (sym (eager_with-some root size nodes some))
+    (λ i d lt. let low : i < length nodes = omega (arith, lt, length-eager nodes) in
+    subst (λ (n : Eager). n.tag.0 < tag.0) (sym (default-same (eager_nodes nodes) i d (eager_node nodes no_node) lt ∙ eager_at nodes i low)) (h i low))

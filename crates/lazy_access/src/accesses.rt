@@ -11,12 +11,12 @@ ghost use Rattle.lazy_access.specs.Requests.{HasWalk, HasCuts, violation_in};
 ghost use Rattle.lazy_access.specs.Ready.{IsReadyFor};
 ghost use Rattle.lazy_access.specs.declared.request.TreeRequest.TheVariants.{Access as ToAccess};
 
-use crate::check::Found;
+use crate::check::{Access, Found};
 use crate::visit::visit;
 use bsan_ids::{Span, Tag};
-use lazy_tree::LazyTree;
 use eager_tree::Violation;
-use perm_table::{Kind};
+use lazy_tree::LazyTree;
+use perm_table::Kind;
 
 /// The violation of a denial.
 pub fn violation_of(tree: &LazyTree, found: Option<Found>) -> Option<Violation>
@@ -51,7 +51,13 @@ pub fn access_at(tree: &mut LazyTree, x: usize, span: Span, kind: Kind) -> Optio
     ensures ring { IsQuiet tree.old (node_at tree.old.nodes x).tag span kind → tree.new.visits ≤ tree.old.visits + ring_size (links (eager_of tree.old).nodes) (node_at tree.old.nodes x).tag * pieces tree.old.nodes span }
 {
     tree.soundness();
-    let found = visit(tree, x, span, kind, true);
+    let access = Access {
+        node: x,
+        span,
+        kind,
+        below: true,
+    };
+    let found = visit(tree, access);
     tree.soundness();
     violation_of(tree, found)
 }

@@ -12,7 +12,7 @@ ghost use Rattle.lazy_access.specs.declared.request.TreeRequest.TheVariants.{End
 ghost use Rattle.lazy_access.specs.Ends.{FindsEnd, NoEndDenial, HasEndRoomOn, HasEndRoom, IsEnded};
 
 use crate::accesses::violation_of;
-use crate::check::Found;
+use crate::check::{Access, Found};
 use crate::visit::{denial, visit};
 use bsan_ids::{Span, Tag};
 use eager_tree::Violation;
@@ -49,7 +49,15 @@ fn run_denial(tree: &mut LazyTree, x: usize, at: u32) -> Option<Found>
         len: tree.run_end(x, at) - at,
     };
     match implicit(tree.tell(x, at)) {
-        Some(kind) => denial(tree, x, span, kind, false),
+        Some(kind) => {
+            let access = Access {
+                node: x,
+                span,
+                kind,
+                below: false,
+            };
+            denial(tree, access)
+        }
         None => None,
     }
 }
@@ -93,7 +101,13 @@ fn end_run(tree: &mut LazyTree, x: usize, at: u32)
         len: tree.run_end(x, at) - at,
     };
     if let Some(kind) = implicit(tree.tell(x, at)) {
-        let _ = visit(tree, x, span, kind, false);
+        let access = Access {
+            node: x,
+            span,
+            kind,
+            below: false,
+        };
+        let _ = visit(tree, access);
     }
 }
 

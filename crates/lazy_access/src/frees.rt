@@ -11,10 +11,11 @@ ghost use Rattle.lazy_access.specs.declared.request.TreeRequest.TheVariants.{Fre
 ghost use Rattle.lazy_access.specs.Held.{FindsAccessed, FindsHeldBy, FindsHeld, earlier_held};
 
 use crate::accesses::{access_at, violation_of};
+use crate::check::Access;
 use crate::visit::denial;
 use bsan_ids::{Span, Tag};
-use lazy_tree::LazyTree;
 use eager_tree::Violation;
+use lazy_tree::LazyTree;
 use perm_table::{Guard, Kind, Perm};
 
 /// A byte that a strongly guarded node has accessed, and the node's state there.
@@ -106,9 +107,15 @@ fn free_at(tree: &mut LazyTree, x: usize) -> Option<Violation>
         start: 0,
         len: tree.size(),
     };
+    let access = Access {
+        node: x,
+        span: whole,
+        kind: Kind::Write,
+        below: true,
+    };
     match first_held(tree) {
         None => access_at(tree, x, whole, Kind::Write),
-        Some(held) => match denial(tree, x, whole, Kind::Write, true) {
+        Some(held) => match denial(tree, access) {
             Some(found) => violation_of(tree, Some(found)),
             None => Some(Violation::StrongFree {
                 offset: held.offset,

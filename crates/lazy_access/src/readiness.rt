@@ -8,6 +8,7 @@ ghost use Rattle.lazy_access.specs.Change.{IsRoomier};
 ghost use Rattle.lazy_access.specs.Requests.{IsChild};
 ghost use Rattle.lazy_access.specs.Ready.{IsReadyToAccess, IsReadyToRetag, IsReadyToEnd, IsReadyFor, IsWithinRing, Fits};
 
+use crate::check::Access;
 use crate::request::TreeRequest;
 use crate::reserve::{reserve_cuts, reserve_ends};
 use bsan_ids::{NoMemory, Span, Tag};
@@ -29,7 +30,15 @@ fn prepare_access(tree: &mut LazyTree, tag: Tag, span: Span, kind: Kind) -> Resu
     tree.reserve_walk()?;
     tree.soundness();
     match tree.find(tag) {
-        Some(x) => reserve_cuts(tree, x, span, kind, true, 2),
+        Some(x) => {
+            let access = Access {
+                node: x,
+                span,
+                kind,
+                below: true,
+            };
+            reserve_cuts(tree, access, 2)
+        }
         None => Ok(()),
     }
 }
@@ -121,7 +130,7 @@ fn prepare_end(tree: &mut LazyTree, tag: Tag) -> Result<(), NoMemory>
 }
 
 /// Whether a span has a byte and lies in the allocation.
-fn fits(tree: &LazyTree, span: Span) -> bool
+pub fn fits(tree: &LazyTree, span: Span) -> bool
     ensures yes { IsTrue result → (1 ≤ span.len) × (span.start + span.len ≤ tree.now.size) }
     ensures no { IsFalse result → (1 ≤ span.len) → (span.start + span.len ≤ tree.now.size) → ⊥ }
 {

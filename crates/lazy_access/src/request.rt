@@ -6,7 +6,11 @@ use perm_table::{Guard, Kind, RetagKind};
 #[derive(Clone, Copy, Debug, PartialEq, Eq)]
 pub enum TreeRequest {
     /// An access through a node.
-    Access { tag: Tag, span: Span, kind: Kind },
+    Access {
+        tag: Tag,
+        span: Span,
+        kind: Kind,
+    },
     /// A new child of a node, after a read through the node.
     Retag {
         parent: Tag,
@@ -15,7 +19,11 @@ pub enum TreeRequest {
         guard: Guard,
     },
     /// The end of a node's protector.
-    EndProtector { tag: Tag },
+    EndProtector {
+        tag: Tag,
+    },
     /// The free of the allocation through a node.
-    FreeAll { tag: Tag },
+    FreeAll {
+        tag: Tag,
+    },
 }

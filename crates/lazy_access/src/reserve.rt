@@ -7,12 +7,11 @@ ghost use Rattle.lazy_access.specs.Change.{IsRoomier};
 ghost use Rattle.lazy_access.specs.Requests.{local_in, HasWalk, HasRoom};
 ghost use Rattle.lazy_access.specs.Ends.{HasEndRoomOn, HasEndRoom, runs_from};
 
-use crate::check::see_node;
+use crate::check::{Access, see_node};
 use crate::ends::implicit;
 use crate::path::{clear_path, goes_below, mark_path, onward};
 use bsan_ids::{NoMemory, Span};
 use lazy_tree::{LazyTree, Scratch};
-use perm_table::Kind;
 
 /// Makes room for `runs` more runs in a node, if it may be changed.
 fn reserve_node(
@@ -34,26 +33,28 @@ fn reserve_node(
     }
 }
 
-/// Makes room for `runs` more runs in each node that an access through the node `x` may change. The
-/// nodes below `x` are left out unless `below` holds.
+/// Makes room for `runs` more runs in each node that an access may change.
 fn reserve_marked(
     tree: &mut LazyTree,
-    x: usize,
-    span: Span,
-    kind: Kind,
-    below: bool,
+    access: Access,
     runs: u32,
     path: &[bool],
 ) -> Result<(), NoMemory>
-    requires node { x < length tree.old.nodes }
-    requires within { span.start + span.len ≤ tree.old.size }
-    requires path { IsPath tree.old.nodes x path.now }
+    requires node { access.node < length tree.old.nodes }
+    requires within { access.span.start + access.span.len ≤ tree.old.size }
+    requires path { IsPath tree.old.nodes access.node path.now }
     ensures tree { tree.new ≡ record tree.old { nodes = tree.new.nodes; visits = tree.new.visits } }
     ensures rises { tree.old.visits ≤ tree.new.visits }
     ensures same { IsRoomier tree.old.nodes tree.new.nodes }
-    ensures ring { IsTrue below → IsQuietAll tree.old.nodes (bool_at path.now) kind span → tree.new.visits ≤ tree.old.visits + ring_of tree.old.nodes (bool_at path.now) * pieces tree.old.nodes span }
-    ensures room { OnOk result ((i : ℕ) → IsMet tree.old.nodes x below (length tree.old.nodes) i → (runs ≤ (node_at tree.new.nodes i).runs.spare) ⊎ (IsFalse (bool_at path.now i) × IsCovered tree.old.nodes kind span i)) }
+    ensures ring { IsTrue access.below → IsQuietAll tree.old.nodes (bool_at path.now) access.kind access.span → tree.new.visits ≤ tree.old.visits + ring_of tree.old.nodes (bool_at path.now) * pieces tree.old.nodes access.span }
+    ensures room { OnOk result ((i : ℕ) → IsMet tree.old.nodes access.node access.below (length tree.old.nodes) i → (runs ≤ (node_at tree.new.nodes i).runs.spare) ⊎ (IsFalse (bool_at path.now i) × IsCovered tree.old.nodes access.kind access.span i)) }
 {
+    let Access {
+        node: x,
+        span,
+        kind,
+        below,
+    } = access;
     tree.soundness();
     let mut here = Some(0);
     'walk: while let Some(at) = here {
@@ -65,30 +66,22 @@ fn reserve_marked(
     Ok(())
 }
 
-/// Makes room for `runs` more runs in each node that an access through the node `x` may change, with
-/// the room of a walk. The nodes below `x` are left out unless `below` holds.
-pub fn reserve_cuts(
-    tree: &mut LazyTree,
-    x: usize,
-    span: Span,
-    kind: Kind,
-    below: bool,
-    runs: u32,
-) -> Result<(), NoMemory>
-    requires node { x < length tree.old.nodes }
-    requires within { span.start + span.len ≤ tree.old.size }
+/// Makes room for `runs` more runs in each node that an access may change, with the room of a walk.
+pub fn reserve_cuts(tree: &mut LazyTree, access: Access, runs: u32) -> Result<(), NoMemory>
+    requires node { access.node < length tree.old.nodes }
+    requires within { access.span.start + access.span.len ≤ tree.old.size }
     requires walk { HasWalk tree.old }
     ensures tree { tree.new ≡ record tree.old { nodes = tree.new.nodes; visits = tree.new.visits } }
     ensures rises { tree.old.visits ≤ tree.new.visits }
     ensures same { IsRoomier tree.old.nodes tree.new.nodes }
-    ensures ring { IsTrue below → IsQuietAll tree.old.nodes (local_in tree.old.nodes x) kind span → tree.new.visits ≤ tree.old.visits + ring_of tree.old.nodes (local_in tree.old.nodes x) * pieces tree.old.nodes span }
-    ensures room { OnOk result (HasRoom tree.new.nodes x below span kind runs) }
+    ensures ring { IsTrue access.below → IsQuietAll tree.old.nodes (local_in tree.old.nodes access.node) access.kind access.span → tree.new.visits ≤ tree.old.visits + ring_of tree.old.nodes (local_in tree.old.nodes access.node) * pieces tree.old.nodes access.span }
+    ensures room { OnOk result (HasRoom tree.new.nodes access.node access.below access.span access.kind runs) }
 {
     tree.soundness();
     let Scratch { mut path, opened } = tree.lend();
-    mark_path(tree, x, &mut path);
-    let made = reserve_marked(tree, x, span, kind, below, runs, path.as_slice());
-    clear_path(tree, x, &mut path);
+    mark_path(tree, access.node, &mut path);
+    let made = reserve_marked(tree, access, runs, path.as_slice());
+    clear_path(tree, access.node, &mut path);
     tree.settle(Scratch { path, opened });
     made
 }
@@ -126,7 +119,15 @@ fn reserve_run(tree: &mut LazyTree, x: usize, at: u32, runs: u32) -> Result<(), 
         len: tree.run_end(x, at) - at,
     };
     match implicit(tree.tell(x, at)) {
-        Some(kind) => reserve_cuts(tree, x, span, kind, false, runs),
+        Some(kind) => {
+            let access = Access {
+                node: x,
+                span,
+                kind,
+                below: false,
+            };
+            reserve_cuts(tree, access, runs)
+        }
         None => Ok(()),
     }
 }

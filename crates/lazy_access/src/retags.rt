@@ -10,8 +10,8 @@ ghost use Rattle.lazy_access.specs.declared.request.TreeRequest.TheVariants.{Ret
 use crate::accesses::access_at;
 use crate::lower::lower;
 use bsan_ids::{Span, Tag};
-use lazy_tree::{LazyTree, Level};
 use eager_tree::Violation;
+use lazy_tree::{LazyTree, Level};
 use perm_table::{Guard, Kind, RetagKind, start};
 
 /// Reads the span through `parent` and, where that is not denied, adds a child of it, after `prepare`

@@ -22,9 +22,9 @@ returns-in-None-clause-quiet c = λ none. record {
   node = c.requires.node;
   within = c.requires.within;
   still = λ i lt.
-    let t = c.args.tree.now in
-    let empty = root-alone t.root t.size t.nodes c.args.tag c.requires.node (c.find.ensures.none c.in-None.is) in
-    let zero : length t.nodes ≡ 0 = ap length empty.0 in absurd (omega (arith, lt, zero));
+      let t = c.args.tree.now in
+      let empty = root-alone t.root t.size t.nodes c.args.tag c.requires.node (c.find.ensures.none c.in-None.is) in
+      let zero : length t.nodes ≡ 0 = ap length empty.0 in absurd (omega (arith, lt, zero));
 }
 
 pub returns-in-Some-clause-answer : goal.returns-in-Some-clause-answer

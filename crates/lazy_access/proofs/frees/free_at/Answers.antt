@@ -54,8 +54,8 @@ returns-in-Some-denial-clause-answer c =
     (subst (λ (ns : List Node). Finds ns (local_in ns c.args.x) Write (whole c.size.result) (IsMet ns c.args.x true (length ns)) c.denial.result) held c.denial.ensures.found)) in
     let v : Violation = Denied f.offset (node_at t.nodes f.node).tag f.perm f.local in
     ap (λ (o : Option Violation). (let p : Option Violation × Tree = (o, eager_of c.denial.new.tree) in p)) (c.violation_of.ensures ∙ ap (λ (ns : List Node). violation_in ns (Some f)) nodes)
-          ∙ ap (λ (e : Tree). (let p : Option Violation × Tree = (Some v, e) in p)) eager
-          ∙ free-denied t.root t.size t.nodes (node_at t.nodes c.args.x).tag v (omega (arith, c.requires.node)) (access-found t.root t.size t.nodes c.args.x Write (whole t.size) f c.soundness.ensures.sound c.requires.node (omega arith) found)
+    ∙ ap (λ (e : Tree). (let p : Option Violation × Tree = (Some v, e) in p)) eager
+    ∙ free-denied t.root t.size t.nodes (node_at t.nodes c.args.x).tag v (omega (arith, c.requires.node)) (access-found t.root t.size t.nodes c.args.x Write (whole t.size) f c.soundness.ensures.sound c.requires.node (omega arith) found)
 
 pub returns-in-None-denial-clause-answer : goal.returns-in-None-denial-clause-answer
 returns-in-None-denial-clause-answer c =
@@ -71,9 +71,9 @@ returns-in-None-denial-clause-answer c =
     (subst (λ (ns : List Node). Finds ns (local_in ns c.args.x) Write (whole c.size.result) (IsMet ns c.args.x true (length ns)) c.denial.result) held c.denial.ensures.found)) in
     let first = subst (λ (o : Option Held). FindsHeld t.size t.nodes (length t.nodes) o) c.in-Some.is c.first_held.ensures.held in
     ap (λ (g : Tag). (let p : Option Violation × Tree = (Some (StrongFree h.offset g h.perm), eager_of c.denial.new.tree) in p)) (c.tag.ensures ∙ ap (λ (ns : List Node). (node_at ns h.node).tag) nodes)
-          ∙ ap (λ (e : Tree). (let p : Option Violation × Tree = (Some (StrongFree h.offset (node_at t.nodes h.node).tag h.perm), e) in p)) eager
-          ∙ free-held t.root t.size t.nodes (node_at t.nodes c.args.x).tag h (left_by t.root t.size t.nodes c.args.x Write (whole t.size)) c.soundness.ensures.sound (omega (arith, c.requires.node)) first
-          (access-clean t.root t.size t.nodes c.args.x Write (whole t.size) c.soundness.ensures.sound c.requires.node clean)
+    ∙ ap (λ (e : Tree). (let p : Option Violation × Tree = (Some (StrongFree h.offset (node_at t.nodes h.node).tag h.perm), e) in p)) eager
+    ∙ free-held t.root t.size t.nodes (node_at t.nodes c.args.x).tag h (left_by t.root t.size t.nodes c.args.x Write (whole t.size)) c.soundness.ensures.sound (omega (arith, c.requires.node)) first
+    (access-clean t.root t.size t.nodes c.args.x Write (whole t.size) c.soundness.ensures.sound c.requires.node clean)
 
 pub returns-in-None-clause-cuts : goal.returns-in-None-clause-cuts
 returns-in-None-clause-cuts c = λ s lt e.

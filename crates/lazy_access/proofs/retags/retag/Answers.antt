@@ -52,10 +52,10 @@ returns-in-Some-access_at-clause-answer c =
     let root : c.access_at.new.tree.root ≡ t.root = ap (λ (s : Shape). s.root) c.access_at.ensures.tree in
     let size : c.access_at.new.tree.size ≡ t.size = ap (λ (s : Shape). s.size) c.access_at.ensures.tree in
     retag-denied (eager_with t.root t.size t.nodes) (eager_with c.access_at.new.tree.root c.access_at.new.tree.size c.access_at.new.tree.nodes) c.args.parent c.args.tag c.args.span c.args.kind c.args.guard v
-          (ap (λ r. (let p : Option Violation × Tree = (Some v, eager_with r c.access_at.new.tree.size c.access_at.new.tree.nodes) in p)) root
-          ∙ ap (λ s. (let p : Option Violation × Tree = (Some v, eager_with t.root s c.access_at.new.tree.nodes) in p)) size
-          ∙ ap (λ (o : Option Violation). (let p : Option Violation × Tree = (o, eager_with t.root t.size c.access_at.new.tree.nodes) in p)) (sym c.in-Some-access_at.is) ∙ c.access_at.ensures.answer
-          ∙ ap (λ g. access (eager_with t.root t.size t.nodes) g c.args.span Read) c.in-Some.ensures.some.1)
+    (ap (λ r. (let p : Option Violation × Tree = (Some v, eager_with r c.access_at.new.tree.size c.access_at.new.tree.nodes) in p)) root
+    ∙ ap (λ s. (let p : Option Violation × Tree = (Some v, eager_with t.root s c.access_at.new.tree.nodes) in p)) size
+    ∙ ap (λ (o : Option Violation). (let p : Option Violation × Tree = (o, eager_with t.root t.size c.access_at.new.tree.nodes) in p)) (sym c.in-Some-access_at.is) ∙ c.access_at.ensures.answer
+    ∙ ap (λ g. access (eager_with t.root t.size t.nodes) g c.args.span Read) c.in-Some.ensures.some.1)
 
 pub returns-clause-answer : goal.returns-clause-answer
 returns-clause-answer c =
@@ -71,14 +71,14 @@ returns-clause-answer c =
     let read = ap (λ (o : Option Violation). (let p : Option Violation × Tree = (o, eager_with t.root t.size c.access_at.new.tree.nodes) in p)) (sym c.in_default-access_at.is) ∙ c.access_at.ensures.answer
     ∙ ap (λ g. access (eager_with t.root t.size t.nodes) g c.args.span Read) c.in-Some.ensures.some.1 in
     ap (λ r. (let p : Option Violation × Tree = (None, eager_with r c.add.new.self.size c.add.new.self.nodes) in p)) root
-          ∙ ap (λ s. (let p : Option Violation × Tree = (None, eager_with t.root s c.add.new.self.nodes) in p)) sum
-          ∙ retag-end t.root t.size t.nodes c.access_at.new.tree.nodes c.lower.new.tree.nodes c.add.new.self.nodes c.in-Some.x c.args.parent c.args.tag c.args.span c.args.kind c.args.guard t.ready
-          (omega (arith, c.requires.ready.stored, c.access_at.ensures.count)) (subst (λ s. IsSound s c.lower.new.tree.nodes) size c.soundness-2.ensures.sound) lt
-          (c.lower.ensures.lowered.links.tag c.in-Some.x ∙ c.access_at.ensures.tags c.in-Some.x ∙ c.in-Some.ensures.some.1)
-          (nodes-lowered t.size c.access_at.new.tree.nodes c.lower.new.tree.nodes (local_in c.access_at.new.tree.nodes c.in-Some.x) c.of.result (subst (λ s. IsSound s c.access_at.new.tree.nodes) now c.soundness.ensures.sound) (subst (λ s. IsSound s c.lower.new.tree.nodes) size c.soundness-2.ensures.sound) lowered)
-          c.requires.ready.child
-          (subst (λ (o : Option (Ranges Slot)). IfSome o (λ runs. c.add.new.self.nodes ≡ with_child c.lower.new.tree.nodes c.in-Some.x c.args.tag c.args.guard runs)) ready c.add.ensures.nodes)
-          read
+    ∙ ap (λ s. (let p : Option Violation × Tree = (None, eager_with t.root s c.add.new.self.nodes) in p)) sum
+    ∙ retag-end t.root t.size t.nodes c.access_at.new.tree.nodes c.lower.new.tree.nodes c.add.new.self.nodes c.in-Some.x c.args.parent c.args.tag c.args.span c.args.kind c.args.guard t.ready
+    (omega (arith, c.requires.ready.stored, c.access_at.ensures.count)) (subst (λ s. IsSound s c.lower.new.tree.nodes) size c.soundness-2.ensures.sound) lt
+    (c.lower.ensures.lowered.links.tag c.in-Some.x ∙ c.access_at.ensures.tags c.in-Some.x ∙ c.in-Some.ensures.some.1)
+    (nodes-lowered t.size c.access_at.new.tree.nodes c.lower.new.tree.nodes (local_in c.access_at.new.tree.nodes c.in-Some.x) c.of.result (subst (λ s. IsSound s c.access_at.new.tree.nodes) now c.soundness.ensures.sound) (subst (λ s. IsSound s c.lower.new.tree.nodes) size c.soundness-2.ensures.sound) lowered)
+    c.requires.ready.child
+    (subst (λ (o : Option (Ranges Slot)). IfSome o (λ runs. c.add.new.self.nodes ≡ with_child c.lower.new.tree.nodes c.in-Some.x c.args.tag c.args.guard runs)) ready c.add.ensures.nodes)
+    read
 
 pub access_at-requires-clause-cuts : goal.access_at-requires-clause-cuts
 access_at-requires-clause-cuts c =
