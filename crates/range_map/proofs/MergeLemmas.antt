@@ -1,5 +1,5 @@
 -- Lemmas on the joining of neighbours.
-use Rattle.std.proofs.Common.{◌≡◌, ℕ, zero, suc, ◌+◌, ◌<◌, ◌≤◌, List, [], ◌∷◌, ◌++◌, length, take, drop, get_or, set, map, Bool, true, false, not, cond, refl, sym, ap, subst, ◌∙◌, inl, inr, arith, length-append, length-set}
+use Rattle.std.proofs.Common.{◌≡◌, ℕ, zero, suc, ◌+◌, ◌<◌, ◌≤◌, List, [], ◌∷◌, ◌++◌, length, take, drop, get_or, set, map, Bool, true, false, not, ◌||◌, eqb, cond, refl, sym, ap, subst, ◌∙◌, inl, inr, arith, length-append, length-set}
 use Rattle.std.proofs.lemmas.Bool.Decides.{nat_tests}
 use Rattle.std.proofs.lemmas.Bool.{cases_lt}
 use Rattle.std.proofs.lemmas.List.{take_more, places, drop_more, drop-set-lt, take-set-le, get_or-set_same}
@@ -7,7 +7,7 @@ use Rattle.std.specs.List.{range_with_len}
 use Rattle.range_map.specs.declared.Run.{Run}
 use Rattle.range_map.specs.Runs.{value_at, IsRisingTo, bytes_of, starts_of, compacted, last_value}
 use Rattle.range_map.proofs.RunLemmas.{rising-weaken, rising-bound, value_at-low}
-use Rattle.range_map.specs.Ranges.{boundaries, boundaries_from}
+use Rattle.range_map.specs.Ranges.{boundaries, boundaries_from, has_start}
 
 cond-cons : {T : Type 0} (b : Bool) (x : T) (xs ys : List T) → x ∷ cond b xs ys ≡ cond b (x ∷ xs) (x ∷ ys)
 cond-cons true x xs ys = refl
@@ -133,3 +133,27 @@ not-true false h = refl
 pub not-false : (b : Bool) → not b ≡ false → b ≡ true
 not-false true h = refl
 not-false false h = sym h
+
+-- joined runs begin where a run began before
+pub has_start-compacted : {T : Type 0} (same : T → T → Bool) (s : ℕ) (v : T) (rs : List (Run T)) → has_start s (map (λ (r : Run T). r.start) (compacted same v rs)) ≡ true → has_start s (map (λ (r : Run T). r.start) rs) ≡ true
+has_start-compacted same s v [] h = h
+has_start-compacted same s v (r ∷ rs) h =
+    elim (same v r.value) as (λ b. has_start s (map (λ (r : Run _). r.start) (cond b (compacted same v rs) (r ∷ compacted same r.value rs))) ≡ true → (eqb r.start s || has_start s (map (λ (r : Run _). r.start) rs)) ≡ true) [
+      | true ↦ λ e. or-right (eqb r.start s) (has_start-compacted same s v rs e)
+      | false ↦ λ e. or-more (eqb r.start s) (has_start s (map (λ (r : Run _). r.start) (compacted same r.value rs))) (has_start s (map (λ (r : Run _). r.start) rs)) (λ e. has_start-compacted same s r.value rs e) e
+    ] h
+  where
+    or-right : (a : Bool) {b : Bool} → b ≡ true → (a || b) ≡ true
+    or-right true e = refl
+    or-right false e = e
+
+    or-more : (a b c : Bool) → (b ≡ true → c ≡ true) → (a || b) ≡ true → (a || c) ≡ true
+    or-more true b c f e = refl
+    or-more false b c f e = f e
+
+pub starts-fewer : {T : Type 0} (same : T → T → Bool) (s : ℕ) (v : T) (rs : List (Run T)) → has_start s (starts_of (compacted same v rs)) ≡ true → has_start s (starts_of rs) ≡ true
+starts-fewer same s v rs h =
+    elim (eqb 0 s) as (λ b. (b || has_start s (map (λ (r : Run _). r.start) (compacted same v rs))) ≡ true → (b || has_start s (map (λ (r : Run _). r.start) rs)) ≡ true) [
+      | true ↦ λ e. refl
+      | false ↦ λ e. has_start-compacted same s v rs e
+    ] h

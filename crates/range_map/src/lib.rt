@@ -240,6 +240,7 @@ impl<T: Copy + Eq> RangeMap<T> {
         requires { (a : T) → (b : T) → IsTrue (T.eq a b) ↔ (a ≡ b) }
         ensures bytes { self.new.bytes ≡ self.old.bytes }
         ensures starts { self.new.starts ≡ boundaries T.eq self.old.bytes }
+        ensures fewer { (s : ℕ) → IsTrue (has_start s self.new.starts) → IsTrue (has_start s self.old.starts) }
         ensures spare { self.old.spare ≤ self.new.spare }
     {
         let kept = compact(self.first, self.later.as_mut_slice());

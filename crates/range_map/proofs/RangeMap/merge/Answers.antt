@@ -2,7 +2,7 @@ use Rattle.std.proofs.Common.{arith, ◌≡◌, ◌∙◌, ◌≤◌, length, ap
 use Rattle.std.proofs.lemmas.List.{take-take, take-append-le}
 use Rattle.range_map.specs.Runs.{compacted}
 use Rattle.range_map.proofs.RunLemmas.{same_bytes}
-use Rattle.range_map.proofs.MergeLemmas.{rising-compacted, value_at-compacted, starts-compacted}
+use Rattle.range_map.proofs.MergeLemmas.{rising-compacted, value_at-compacted, starts-compacted, starts-fewer}
 use Rattle.range_map.proofs.RangeMap.merge.Goals as goal
 
 -- the runs that are left
@@ -25,3 +25,7 @@ pub returns-clause-starts : goal.returns-clause-starts
 returns-clause-starts g c =
     rw (← c.self.view_is, left g c)
     (starts-compacted g.T.PartialEq.eq (λ x y. (c.requires x y).0) (λ x. (c.requires x x).1 refl) c.self.inside.len c.self.inside.first c.self.inside.later.items c.self.invariant)
+
+pub returns-clause-fewer : goal.returns-clause-fewer
+returns-clause-fewer g c = λ s h.
+    rw (← c.self.view_is) (starts-fewer g.T.PartialEq.eq s c.self.inside.first c.self.inside.later.items (rw (left g c) at h))
