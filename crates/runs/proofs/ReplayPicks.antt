@@ -144,7 +144,7 @@ module _ (M : Machine) (O : Memory) (A : Allowed) (limits : Limits) (main : ℕ)
         sums = sums_step M O A limits p t f now e over laws k.stands.objects_fewer k.sums at opened c.3 c.8 c.9;
       }
 
-  pick_keeps : (p q : Progress M O) (t : ℕ) → Kept M O A limits main start p → Picks M O A limits p t q → Kept M O A limits main start q
+  pub pick_keeps : (p q : Progress M O) (t : ℕ) → Kept M O A limits main start p → Picks M O A limits p t q → Kept M O A limits main start q
   pick_keeps p q t k (inl passed) = subst (λ z. Kept M O A limits main start z) (sym passed.1) k
   pick_keeps p q t k (inr h) =
       let can = h.3 in

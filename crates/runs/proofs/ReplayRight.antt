@@ -131,16 +131,16 @@ module _ (merge : List Entry) where
 
 -- the logs of threads --------------------------------------------------------------------
 
-own_part : (t : ℕ) (es : List Entry) → IsOwn t (of_thread t es)
+pub own_part : (t : ℕ) (es : List Entry) → IsOwn t (of_thread t es)
 own_part t [] = tt
 own_part t (e ∷ es) = elim (eqb_tells e.thread.0 t) [ inl hit ↦ rw hit.0 (hit.1, own_part t es) | inr miss ↦ rw miss.0 (own_part t es) ]
 
-own_has : (t : ℕ) (es : List Entry) (x : Entry) → IsOwn t es → Has es x → x.thread.0 ≡ t
+pub own_has : (t : ℕ) (es : List Entry) (x : Entry) → IsOwn t es → Has es x → x.thread.0 ≡ t
 own_has t [] x h g = absurd g
 own_has t (e ∷ es) x h (inl is) = subst (λ (y : Entry). y.thread.0 ≡ t) is h.0
 own_has t (e ∷ es) x h (inr g) = own_has t es x h.1 g
 
-part_rises : (t n : ℕ) (es : List Entry) → RisesFrom n es → RisesFrom n (of_thread t es)
+pub part_rises : (t n : ℕ) (es : List Entry) → RisesFrom n es → RisesFrom n (of_thread t es)
 part_rises t n [] r = tt
 part_rises t n (e ∷ es) r =
     elim (e.thread.0 == t) as (λ b. RisesFrom n (if b then e ∷ of_thread t es else of_thread t es)) [
@@ -148,7 +148,7 @@ part_rises t n (e ∷ es) r =
       | false ↦ rises_lower n e.stamp.0 (of_thread t es) (let l = r.0 in omega (arith, l)) (part_rises t e.stamp.0 es r.1)
     ]
 
-same_stamp : (n : ℕ) (es : List Entry) (x y : Entry) → RisesFrom n es → Has es x → Has es y → y.stamp.0 ≡ x.stamp.0 → x ≡ y
+pub same_stamp : (n : ℕ) (es : List Entry) (x y : Entry) → RisesFrom n es → Has es x → Has es y → y.stamp.0 ≡ x.stamp.0 → x ≡ y
 same_stamp n [] x y r h g is = absurd h
 same_stamp n (e ∷ es) x y r (inl h) (inl g) is = sym h ∙ g
 same_stamp n (e ∷ es) x y r (inl h) (inr g) is =
@@ -157,7 +157,7 @@ same_stamp n (e ∷ es) x y r (inr h) (inl g) is =
     let above = above_first e.stamp.0 es x r.1 h in let at = ap (λ (z : Entry). z.stamp.0) g in absurd (omega (arith, above, at, is))
 same_stamp n (e ∷ es) x y r (inr h) (inr g) is = same_stamp e.stamp.0 es x y r.1 h g is
 
-got_within : {X : Type 0} (xs : List X) (i : ℕ) → i < length xs → (x : X) × (slice_get xs i ≡ Some x)
+pub got_within : {X : Type 0} (xs : List X) (i : ℕ) → i < length xs → (x : X) × (slice_get xs i ≡ Some x)
 got_within [] i less = absurd (omega (arith, less))
 got_within (x ∷ xs) zero less = (x, refl)
 got_within (x ∷ xs) (suc i) less = got_within xs i (omega (arith, less))
@@ -176,7 +176,7 @@ ended_as None e some is = absurd (some refl)
 ended_as (Some x) e some is = ap Some is
 
 module _ (M : Machine) where
-  log_found : (fs : List (Fiber M)) (k : ℕ) (log : ThreadLog) → Has (logs_from M k fs) log → (i : ℕ) × (f : Fiber M) × (slice_get fs i ≡ Some f) × (log_of M (i + k) f ≡ log)
+  pub log_found : (fs : List (Fiber M)) (k : ℕ) (log : ThreadLog) → Has (logs_from M k fs) log → (i : ℕ) × (f : Fiber M) × (slice_get fs i ≡ Some f) × (log_of M (i + k) f ≡ log)
   log_found [] k log h = absurd h
   log_found (f ∷ fs) k log (inl is) = (0, f, refl, ap (λ n. log_of M n f) (plus_zero k) ∙ is)
   log_found (f ∷ fs) k log (inr h) = let r = log_found fs (suc k) log h in (suc r.0, r.1, r.2, ap (λ n. log_of M n r.1) (sym (plus_suc r.0 k)) ∙ r.3)
@@ -204,7 +204,7 @@ module _ (M : Machine) where
   numbers_rise [] k = tt
   numbers_rise (f ∷ fs) k = (omega arith, numbers_rise fs (suc k))
 
-  may_merge : (merge : List Entry) → RisesFrom 0 merge → (fs : List (Fiber M)) (k : ℕ) → ((i : ℕ) (f : Fiber M) → slice_get fs i ≡ Some f → of_thread (i + k) merge ≡ f.entries) → MayMerge (logs_from M k fs)
+  pub may_merge : (merge : List Entry) → RisesFrom 0 merge → (fs : List (Fiber M)) (k : ℕ) → ((i : ℕ) (f : Fiber M) → slice_get fs i ≡ Some f → of_thread (i + k) merge ≡ f.entries) → MayMerge (logs_from M k fs)
   may_merge merge r [] k parts = no_logs
   may_merge merge r (f ∷ fs) k parts =
       let part : of_thread k merge ≡ f.entries = ap (λ n. of_thread n merge) (sym (plus_zero k)) ∙ parts 0 f refl in

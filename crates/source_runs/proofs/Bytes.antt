@@ -34,6 +34,7 @@ use Rattle.runs.proofs.PlainMemory.{HasShadow, keeps_shadow}
 use Rattle.thread_parts.specs.Words.{prov_at}
 use Rattle.thread_parts.specs.Fits.{ReplyFits}
 use Rattle.source_runs.specs.Invariant.{AreBytes, PlainFits}
+use Rattle.source_runs.proofs.OwnLimits.{answer_own}
 use Rattle.source_runs.specs.Allocations.{MadeFits, ObjectFits, IsOfAllocation, IsMake, AllocationLaw}
 
 abbrev IsByte : ℕ → Type 0
@@ -291,4 +292,5 @@ allocation_law = record {
   first = λ a. record { number = refl; made = tt };
   next = object_next;
   replies = λ a o e ty fits short of named is. subst (λ q. Suits ty e e.request q) (sym is) (replies ty e a named o fits e.request short of);
+  own = answer_own;
 }

@@ -1,7 +1,6 @@
 -- Where no rule is broken, a join's handle is a spawn's and is defined on every path to the join.
-use Rattle.std.proofs.Common.{◌≡◌, ℕ, zero, suc, ◌<◌, List, [], ◌∷◌, length, refl, sym, ap, subst, ◌∙◌, arith}
+use Rattle.std.proofs.Common.{◌≡◌, ℕ, ◌<◌, List, [], ◌∷◌, length, refl, sym, ap, subst, ◌∙◌, arith}
 use Rattle.std.specs.Prelude.{slice_get, Some, None, Contains}
-use Rattle.std.proofs.lemmas.List.Elements.{Contains-append_right}
 use Rattle.ir_ast.specs.declared.hosts.HostTable.{HostTable}
 use Rattle.ir_ast.specs.declared.program.Block.{Block}
 use Rattle.ir_ast.specs.declared.program.Function.{Function}
@@ -22,17 +21,8 @@ use Rattle.ir_rules.specs.Rules.Broken.{of_path, of_first}
 use Rattle.source_sem.specs.Joining.{IsHeld, IsWanted, StandsAt, FunctionJoins}
 use Rattle.source_sem.proofs.Events.{each_in, block_held}
 use Rattle.source_sem.proofs.Accepting.{events_held}
+use Rattle.source_sem.proofs.Every.{contains_at, each_at}
 use Rattle.source_runs.specs.AcceptedJoins.{AcceptedProgramsJoin}
-
-contains_at : {A : Type 0} (xs : List A) (k : ℕ) (x : A) → slice_get xs k ≡ Some x → Contains xs x
-contains_at [] k x is = cc
-contains_at (y ∷ ys) zero x is = let same : y ≡ x = cc in subst (λ z. Contains (z ∷ ys) x) (sym same) (0, omega arith, refl)
-contains_at (y ∷ ys) (suc k) x is = Contains-append_right (y ∷ []) ys x (contains_at ys k x is)
-
-each_at : {A : Type 0} (P : A → Type 0) (xs : List A) (k : ℕ) (x : A) → Each P xs → slice_get xs k ≡ Some x → P x
-each_at P [] k x all is = cc
-each_at P (y ∷ ys) zero x all is = let same : y ≡ x = cc in subst P same all.0
-each_at P (y ∷ ys) (suc k) x all is = each_at P ys k x all.1 is
 
 same_block : {a b : Block} → Some a ≡ Some b → a ≡ b
 same_block h = cc

@@ -46,14 +46,10 @@ use Rattle.thread_parts.specs.Fits.{IsWord, ValueIn, JoinFits, MadeAt, ReplyFits
 use Rattle.source_sem.specs.Source.{Setting, Source, Frame, Doing, Ready, Entering, Copying, Waiting, Retagging, Leaving, op_part, advance, in_block, goto_in, goto, has_step, to_retag, entering, first_insts, first_term, frame_of, new_frame, taken, taken_arg, result_step, resumed_by, resumed, return_to, returned_value, part_turn, term_turn, ready_turn, frames_turn, counted, counted_if, leave, leave_on, copy_on, joined, part_answer, term_answer, ready_answer, copying_part, copying_answer, entering_answer, doing_answer, frames_answer, source_begins, source_start, source_child, part_child, insts_child, frames_child, frames_ask, doing_ask, ready_ask, term_ask, copying_ask, copying_by, entry_ask, entering_ask, release_or, nowhere, part_type, insts_type, frames_type}
 use Rattle.source_sem.specs.Typing.{HasType, DestHolds, ParamTyped, InstTyped, GoalTyped, RetTyped, JumpTyped, BlockTyped, FunctionTyped, ProgramTyped}
 use Rattle.source_sem.specs.Starting.{ArgsFit}
-use Rattle.source_runs.specs.Invariant.{HoldsFit, EnvFits, ResultFits, AreBytes, HalfFits, Enters, DoingFits, FrameFits, Awaits, CallersFit, EndFits, FramesFit, SourceFits, PlainFits, RegistersFit, Told, JoinsTyped, WordLaw}
+use Rattle.source_runs.specs.Invariant.{HoldsFit, EnvFits, ResultFits, AreBytes, HalfFits, Enters, DoingFits, FrameFits, Awaits, CallersFit, EndFits, FramesFit, SourceFits, PlainFits, RegistersFit, Told, JoinsTyped, StartsWell, WordLaw}
+use Rattle.source_sem.proofs.Every.{each_at}
 use Rattle.source_runs.proofs.Registers.{fits_plain, fits_at, fits_ptr, fits_arg, MayGive, env_put, env_dest, env_empty, env_bind, arg_fits, args_fit}
 use Rattle.source_runs.proofs.Operations.{AccessFits, Begins, StepFits, PartFits, op_fits}
-
-each_at : {A : Type 0} (P : A → Type 0) (xs : List A) (k : ℕ) (x : A) → Each P xs → slice_get xs k ≡ Some x → P x
-each_at P [] k x all is = cc
-each_at P (y ∷ ys) zero x all is = let same : y ≡ x = cc in subst P same all.0
-each_at P (y ∷ ys) (suc k) x all is = each_at P ys k x all.1 is
 
 some_same : {A : Type 0} {a b : A} → Some a ≡ Some b → a ≡ b
 some_same h = cc
@@ -400,7 +396,7 @@ module _ (x : Setting) (K : ℕ → ℕ → Type 0) (zero_fits : (k : ℕ) → K
   -- what is asked: a child whose arguments fit, and an end that fits ------------------------
 
   abbrev AskFits : Option Ty → Option Ty → Source → Ask → Type 0
-  AskFits last u c (ask.Spawn k) = (g : Function) × (slice_get P.functions k ≡ Some g) × SourceFits P K g.result.ty c
+  AskFits last u c (ask.Spawn k) = StartsWell x k c
   AskFits last u c (ask.Ended e) = EndFits last e
   AskFits last u c (ask.Join d) = (ty : Ty) → u ≡ Some ty → JoinsTyped P K (Some ty) d.0
   AskFits last u c (ask.At a r) = HasBytes r
@@ -419,7 +415,7 @@ module _ (x : Setting) (K : ℕ → ℕ → Type 0) (zero_fits : (k : ℕ) → K
     step_asks h (Accesses p a) fits = access_piece (p.value % 2 ^ 32) p.prov a
     step_asks h (Prints v) fits = tt
     step_asks h (Hosts n a b) fits = (fits.1, fits.2)
-    step_asks h (Spawns k args) fits = let f = fits.1 in (f.0, f.1.0, starts k f.0 args f.1)
+    step_asks h (Spawns k args) fits = let f = fits.1 in record { function = f.0; code = f.1.0; args = args; fits = f.1.1; is = refl }
 
     copy_asks : (u : Option Ty) (c : Source) (d s : Arg) (n k : ℕ) (half : Option (List Byte)) → HalfFits half → AskFits last u c (copy_ask_by d s n k half)
     copy_asks u c d s n k None fits = tt

@@ -6,6 +6,7 @@ pub mod LegalHistories
 pub mod Reporting
 pub mod ReplayRuns
 pub mod JoinsAccepted
+pub mod HostsAccepted
 pub mod Bytes
 pub mod Keeping
 pub mod Operations

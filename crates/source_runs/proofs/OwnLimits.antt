@@ -23,6 +23,7 @@ use Rattle.runs.specs.Machine.{TurnsWithin}
 use Rattle.runs.specs.Merge.{merged, entries_of, MayMerge}
 use Rattle.runs.specs.Objects.{objects}
 use Rattle.runs.specs.Parts.{Has, of_thread, child_of}
+use Rattle.runs.specs.Replay.{Progress, RepliesNext}
 use Rattle.runs.specs.Right.{NumbersRiseFrom, IsRight}
 use Rattle.runs.specs.RightErasure.{LimitAsked, LimitsAreAsked}
 use Rattle.runs.specs.Threads.{Feeds, StartsAs, EndsAs}
@@ -70,7 +71,7 @@ end_own : (o : Object) (m : Option Made) (tag : Tag) → PlainIsOwn (end_answer 
 end_own o None tag = tt
 end_own o (Some m) tag = tt
 
-answer_own : (o : Object) (r : Request) (stamp : ℕ) → PlainIsOwn (answer o r (record { 0 = stamp })).reply.plain
+pub answer_own : (o : Object) (r : Request) (stamp : ℕ) → PlainIsOwn (answer o r (record { 0 = stamp })).reply.plain
 answer_own o (request.Make size place) stamp = tt
 answer_own o (request.Retag at len kind guard prov) stamp = retag_own o o.made (reborrow at len kind guard prov) stamp
 answer_own o (request.EndProtector tag) stamp = end_own o o.made tag
@@ -87,13 +88,22 @@ answer_own o (request.Spawn f) stamp = data_own o o.made (request.Spawn f)
 answer_own o (request.Join c) stamp = data_own o o.made (request.Join c)
 
 module _ (x : Setting) (A : Allowed) where
-  reply_own : (w : World (source x) objects) (e : Entry) (r : Request) → Replies (source x) objects A w e r → PlainIsOwn e.reply.plain
+  pub reply_own : (w : World (source x) objects) (e : Entry) (r : Request) → Replies (source x) objects A w e r → PlainIsOwn e.reply.plain
   reply_own w e (request.Make size place) h = subst (λ (y : Reply). PlainIsOwn y.plain) (sym h.5) (answer_own (w.objects h.0.0) e.request e.stamp.0)
   reply_own w e (request.Print v) h = subst (λ (y : Reply). PlainIsOwn y.plain) (sym h) tt
   reply_own w e (request.Host n a b) h = subst (λ (y : Reply). PlainIsOwn y.plain) (sym h.2) tt
   reply_own w e (request.Spawn f) h = subst (λ (y : Reply). PlainIsOwn y.plain) (sym h.4) tt
   reply_own w e (request.Join c) h = subst (λ (y : Reply). PlainIsOwn y.plain) (sym h.3) tt
   reply_own w e _ h = subst (λ (y : Reply). PlainIsOwn y.plain) (sym h.2) (answer_own (w.objects h.0.0) e.request e.stamp.0)
+
+  -- the same of the next reply of a replay
+  pub next_own : (p : Progress (source x) objects) (e : Entry) (r : Request) → RepliesNext (source x) objects A p e r → PlainIsOwn e.reply.plain
+  next_own p e (request.Make size place) h = subst (λ (y : Reply). PlainIsOwn y.plain) (sym h.1) (answer_own _ e.request e.stamp.0)
+  next_own p e (request.Print v) h = subst (λ (y : Reply). PlainIsOwn y.plain) (sym h) tt
+  next_own p e (request.Host n a b) h = subst (λ (y : Reply). PlainIsOwn y.plain) (sym h.2) tt
+  next_own p e (request.Spawn f) h = subst (λ (y : Reply). PlainIsOwn y.plain) (sym h) tt
+  next_own p e (request.Join c) h = subst (λ (y : Reply). PlainIsOwn y.plain) (sym h.3) tt
+  next_own p e _ h = subst (λ (y : Reply). PlainIsOwn y.plain) (sym h.2) (answer_own _ e.request e.stamp.0)
 
   run_own : (w : World (source x) objects) (es : List Entry) → Interleaves (source x) objects A w es → (e : Entry) → Has es e → PlainIsOwn e.reply.plain
   run_own w [] run e h = absurd h

@@ -367,8 +367,10 @@ module _ (x : Setting) (hosts : HostTable) (A : Allowed) (program : IsProgram x.
           let runs : Runs after.threads kinds n.function n.number = inr (t.0, t.1, here n.number refl, n.short) in
           let told : Told (Runs after.threads kinds) e.request e.reply.plain = subst (λ r. Told (Runs after.threads kinds) r e.reply.plain) (sym n.is_spawn) (subst (λ m. Runs after.threads kinds n.function m) (sym n.told) runs) in
           let child = (law after.threads kinds).child f.code.result.ty v.now n.function (fit_more w i e v kinds agree fresh f known f.code.result.ty v.now f.words) n.asked in
+          let first : SourceFits x.program (Runs after.threads kinds) child.function.result.ty (source_child x v.now) =
+          subst (SourceFits x.program (Runs after.threads kinds) child.function.result.ty) (sym child.is) ((law after.threads kinds).start n.function child.function child.args child.code child.fits) in
           next_world w i e v kinds agree fresh f known told
-          (λ c is. record { code = child.0; is_code = subst (λ k. slice_get x.program.functions k ≡ Some child.0) (sym (here c (is_it c is))) child.1; words = child.2; stands = joins.child v.now })
+          (λ c is. record { code = child.function; is_code = subst (λ k. slice_get x.program.functions k ≡ Some child.function) (sym (here c (is_it c is))) child.code; words = first; stands = joins.child v.now })
         where
           started : (b d : Bool) → d ≡ true → (s : Source) × ((if b then Some (source_answer x v.now e.reply) else (if d then Some (source_child x v.now) else w.threads n.number)) ≡ Some s)
           started true d is = (source_answer x v.now e.reply, refl)

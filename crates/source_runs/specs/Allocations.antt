@@ -9,6 +9,7 @@ use Rattle.history.specs.Objects.{Object, Made, unmade, answer}
 use Rattle.ir_ast.specs.Tokens.{Each}
 use Rattle.ir_ast.specs.declared.types.Ty.{Ty}
 use Rattle.thread_parts.specs.Fits.{ReplyFits}
+use Rattle.source_sem.specs.Traps.{PlainIsOwn}
 use Rattle.source_runs.specs.Invariant.{PlainFits}
 
 -- each byte is below 256 and has a place for a fragment
@@ -32,9 +33,10 @@ abbrev pub IsMake : Request → Type 0
 IsMake (request.Make size place) = Unit {0}
 IsMake other = ⊥
 
--- an allocation begins with bytes and keeps them, and what it answers fits what it is asked
+-- an allocation begins with bytes and keeps them; what it answers fits what it is asked; and it never answers a limit on numbers
 pub record AllocationLaw : Type 0 where
   pub first : (a : ℕ) → ObjectFits a (unmade a)
   pub next : (a : ℕ) (o : Object) (r : Request) (stamp : ℕ) → ObjectFits a o → HasBytes r → ObjectFits a (answer o r (record { 0 = stamp })).object
   pub replies : (a : AllocNo) (o : Object) (e : Entry) (ty : Option Ty) → ObjectFits a.0 o → (IsMake e.request → a.0 < 2 ^ 32) → IsOfAllocation e.request → e.alloc ≡ Some a → e.reply ≡ (answer o e.request e.stamp).reply
       → ReplyFits ty e e.request × PlainFits e.reply.plain
+  pub own : (o : Object) (r : Request) (stamp : ℕ) → PlainIsOwn (answer o r (record { 0 = stamp })).reply.plain

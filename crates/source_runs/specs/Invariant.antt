@@ -119,12 +119,20 @@ Told K other p = Unit {0}
 abbrev pub JoinsTyped : Program → (ℕ → ℕ → Type 0) → Option Ty → ℕ → Type 0
 JoinsTyped p K ty c = (k : ℕ) × K k c × ((g : Function) → slice_get p.functions k ≡ Some g → g.result.ty ≡ ty)
 
+-- the first state of a thread that runs function k, with arguments that fit its parameters
+pub record StartsWell (x : Setting) (k : ℕ) (s : Source) : Type 0 where
+  pub function : Function
+  pub code : slice_get x.program.functions k ≡ Some function
+  pub args : List Arg
+  pub fits : ArgsFit function.params args
+  pub is : s ≡ source_start x k args
+
 -- in every state that a thread can reach, words are of their types
 pub record WordLaw (x : Setting) (K : ℕ → ℕ → Type 0) : Type 0 where
   pub start : (k : ℕ) (g : Function) (args : List Arg) → slice_get x.program.functions k ≡ Some g → ArgsFit g.params args → SourceFits x.program K g.result.ty (source_start x k args)
   pub turn : (last : Option Ty) (s : Source) → SourceFits x.program K last s → SourceFits x.program K last (source_turn x s)
   pub after : (last : Option Ty) (s : Source) (e : Entry) → SourceFits x.program K last s → Answers (source_ask x s) e → source_fits x s e → PlainFits e.reply.plain → Told K e.request e.reply.plain → SourceFits x.program K last (source_answer x s e.reply)
-  pub child : (last : Option Ty) (s : Source) (k : ℕ) → SourceFits x.program K last s → source_ask x s ≡ ask.Spawn k → (g : Function) × (slice_get x.program.functions k ≡ Some g) × SourceFits x.program K g.result.ty (source_child x s)
+  pub child : (last : Option Ty) (s : Source) (k : ℕ) → SourceFits x.program K last s → source_ask x s ≡ ask.Spawn k → StartsWell x k (source_child x s)
   pub registers : (last : Option Ty) (s : Source) → SourceFits x.program K last s → Each (RegistersFit x.program K) s.frames
   pub returns : (last : Option Ty) (s : Source) (word : ℕ) (prov : Option Prov) → SourceFits x.program K last s → source_ask x s ≡ ask.Ended (end.Returned word prov) → ResultFits last (record { value = word; prov = prov })
   pub joins : (last : Option Ty) (s : Source) (c : ThreadNo) (ty : Ty) → SourceFits x.program K last s → source_ask x s ≡ ask.Join c → frames_type x s.frames ≡ Some ty → JoinsTyped x.program K (Some ty) c.0
@@ -144,3 +152,8 @@ Passes runs k c = runs k c ≡ true
 abbrev pub AcceptedProgramsKeepWords : Type 0
 AcceptedProgramsKeepWords =
     (x : Setting) (hosts : HostTable) (runs : ℕ → ℕ → Bool) → IsProgram x.program → IsAccepted x.program hosts → Each (λ b. b < 256) x.input → AreNumbers (Passes runs) → WordLaw x (Passes runs)
+
+-- and words stay of their types where more threads are said to run functions
+abbrev pub WordsFitForMore : Type 0
+WordsFitForMore =
+    (p : Program) (runs more : ℕ → ℕ → Bool) (last : Option Ty) (s : Source) → ((k c : ℕ) → runs k c ≡ true → more k c ≡ true) → SourceFits p (Passes runs) last s → SourceFits p (Passes more) last s

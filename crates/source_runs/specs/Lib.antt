@@ -6,6 +6,7 @@ pub mod Histories
 pub mod Reportable
 pub mod Replays
 pub mod AcceptedJoins
+pub mod AcceptedHosts
 pub mod Allocations
 pub mod Invariant
 pub mod Worlds

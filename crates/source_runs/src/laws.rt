@@ -1,9 +1,10 @@
 //! What holds of all runs and of all accepted programs. The functions do nothing: each contract is a law.
+ghost use Rattle.source_runs.specs.AcceptedHosts.{AcceptedProgramsAskTheTable};
 ghost use Rattle.source_runs.specs.AcceptedJoins.{AcceptedProgramsJoin};
 ghost use Rattle.source_runs.specs.Allocations.{AllocationLaw};
 ghost use Rattle.source_runs.specs.ErasureLaw.{ErasureIsARun, RightRecordsErase};
 ghost use Rattle.source_runs.specs.Histories.{HistoriesAreLegal};
-ghost use Rattle.source_runs.specs.Invariant.{AcceptedProgramsKeepWords};
+ghost use Rattle.source_runs.specs.Invariant.{AcceptedProgramsKeepWords, WordsFitForMore};
 ghost use Rattle.source_runs.specs.Laws.{LogsAreOneRun, PromisesAreOneRun, BeginningsAreRuns, LogsTellStates, ReplaysAreRight, WholeRunsLeaveRightRecords, ThreadsDiffer};
 ghost use Rattle.source_runs.specs.Replays.{ReplaysByExample};
 ghost use Rattle.source_runs.specs.Reportable.{RightRecordsAreReportable};
@@ -16,15 +17,22 @@ pub fn accepted_programs_join()
     ensures { AcceptedProgramsJoin }
 {}
 
+/// Where no rule is broken, each thread asks host functions of the table alone.
+pub fn accepted_programs_ask_the_table()
+    ensures { AcceptedProgramsAskTheTable }
+{}
+
 /// Where no rule is broken, each register of each frame holds a word of its type, with a provenance only where it
 /// is a pointer; a handle holds the number of a thread that is said to run its function; each child's arguments fit
-/// its parameters; and what a thread returns fits its function's result.
+/// its parameters; and what a thread returns fits its function's result. All that stays so where more threads are said to run
+/// functions.
 pub fn accepted_programs_keep_words()
-    ensures { AcceptedProgramsKeepWords }
+    ensures words { AcceptedProgramsKeepWords }
+    ensures more { WordsFitForMore }
 {}
 
 /// An allocation's bytes are below 256, so that what it answers is a word of the type that is asked for, and a copied
-/// piece has as many bytes as were asked.
+/// piece has as many bytes as were asked. No allocation answers that a limit on numbers was passed.
 pub fn allocations_answer_words()
     ensures { AllocationLaw }
 {}

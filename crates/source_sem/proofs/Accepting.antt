@@ -99,7 +99,7 @@ in_used u (uses v ∷ es) (inr i) = inr (in_used u es i)
 
 -- operations -------------------------------------------------------------------------
 
-named_fits : {A : Type 0} (Fits : A → Type 0) (o : Option A) (name : Named) → ((rule : Rule) (at : ℕ) → NameBreaks Fits o name rule at → ⊥) → (a : A) × (o ≡ Some a) × ((Fits a → ⊥) → ⊥)
+pub named_fits : {A : Type 0} (Fits : A → Type 0) (o : Option A) (name : Named) → ((rule : Rule) (at : ℕ) → NameBreaks Fits o name rule at → ⊥) → (a : A) × (o ≡ Some a) × ((Fits a → ⊥) → ⊥)
 named_fits Fits None name kept = absurd (kept Unknown name.at refl)
 named_fits Fits (Some a) name kept = (a, refl, λ off. kept BadCall name.at (refl, off))
 
@@ -159,10 +159,10 @@ module _ (p : Program) (hosts : HostTable) (ok : IsAccepted p hosts) (g : Functi
       by_event (defines d h) i = held_in d h (function_events g) i (never_twice d.name)
       by_event (uses u) i = use_held u (in_contains u (used (function_events g)) (in_used u (function_events g) i))
 
-  abbrev OpKept : Op → Type 0
+  abbrev pub OpKept : Op → Type 0
   OpKept o = (rule : Rule) (at : ℕ) → OpBreaks p.functions hosts.entries (function_events g) o rule at → ⊥
 
-  ops_kept : Each OpKept (function_ops g)
+  pub ops_kept : Each OpKept (function_ops g)
   ops_kept = each_from OpKept (function_ops g) (λ o i rule at breaks. ok rule at (of_op g o rule at in_p (in_contains o (function_ops g) i) breaks))
 
   callee : (name : Named) (args : List TypedVal) (result : Option Ty) → ((rule : Rule) (at : ℕ) → NameBreaks (CallFits args result) (function_named p.functions name.name) name rule at → ⊥)

@@ -10,8 +10,9 @@ use Rattle.ir_ast.specs.declared.program.Function.{Function}
 use Rattle.ir_ast.specs.declared.types.Ty.{Ty}
 use Rattle.ir_ast.specs.declared.types.Ty.TheVariants.{Int, Ptr}
 use Rattle.ir_ast.specs.declared.types.Width.TheVariants.{W8, W16, W32, W64}
-use Rattle.ir_rules.specs.Rules.{function_named, block_named}
-use Rattle.ir_ast.specs.Numbers.{function_place, block_place}
+use Rattle.ir_rules.specs.Rules.{function_named, block_named, host_named}
+use Rattle.ir_ast.specs.Numbers.{place, function_place, block_place, host_names}
+use Rattle.ir_ast.specs.declared.hosts.HostEntry.{HostEntry}
 
 bytes_sym : (a b : List ℕ) → bytes_eq a b ≡ true → bytes_eq b a ≡ true
 bytes_sym a b h = (bytes_decides b a).1 (sym ((bytes_decides a b).0 h))
@@ -107,6 +108,10 @@ function_found (h ∷ fs) q f is = found_by h q h.name.name fs (function_named f
 pub block_found : (bs : List Block) (q : List ℕ) (b : Block) → block_named bs q ≡ Some b → slice_get bs (block_place bs q) ≡ Some b
 block_found [] q b is = none_some is
 block_found (h ∷ bs) q b is = found_by h q h.label.name bs (block_named bs q) (block_place bs q) b (bytes_eq q h.label.name) (bytes_eq h.label.name q) refl refl is (block_found bs q b)
+
+pub host_found : (hs : List HostEntry) (q : List ℕ) (e : HostEntry) → host_named hs q ≡ Some e → slice_get hs (place (host_names hs) q) ≡ Some e
+host_found [] q e is = none_some is
+host_found (h ∷ hs) q e is = found_by h q h.name hs (host_named hs q) (place (host_names hs) q) e (bytes_eq q h.name) (bytes_eq h.name q) refl refl is (host_found hs q e)
 
 -- and what stands at the place of a name has it
 module _ {A : Type 0} (one : A) (q n : List ℕ) where

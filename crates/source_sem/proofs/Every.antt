@@ -1,6 +1,6 @@
 -- What holds of each element of a list.
-use Rattle.std.proofs.Common.{inl, inr, List, [], ◌∷◌, ◌++◌, map, refl, sym, subst, arith}
-use Rattle.std.specs.Prelude.{Contains}
+use Rattle.std.proofs.Common.{◌≡◌, ℕ, zero, suc, inl, inr, List, [], ◌∷◌, ◌++◌, map, refl, sym, subst, arith}
+use Rattle.std.specs.Prelude.{Some, slice_get, Contains}
 use Rattle.std.specs.List.{flat_map}
 use Rattle.std.proofs.lemmas.List.Elements.{Contains-append_right}
 use Rattle.ir_ast.specs.Tokens.{Each}
@@ -10,6 +10,16 @@ pub in_contains : {A : Type 0} (a : A) (xs : List A) → Has xs a → Contains x
 in_contains a [] h = absurd h
 in_contains a (x ∷ xs) (inl is) = subst (λ z. Contains (z ∷ xs) a) (sym is) (0, omega arith, refl)
 in_contains a (x ∷ xs) (inr h) = Contains-append_right (x ∷ []) xs a (in_contains a xs h)
+
+pub contains_at : {A : Type 0} (xs : List A) (k : ℕ) (x : A) → slice_get xs k ≡ Some x → Contains xs x
+contains_at [] k x is = cc
+contains_at (y ∷ ys) zero x is = let same : y ≡ x = cc in subst (λ z. Contains (z ∷ ys) x) (sym same) (0, omega arith, refl)
+contains_at (y ∷ ys) (suc k) x is = Contains-append_right (y ∷ []) ys x (contains_at ys k x is)
+
+pub each_at : {A : Type 0} (P : A → Type 0) (xs : List A) (k : ℕ) (x : A) → Each P xs → slice_get xs k ≡ Some x → P x
+each_at P [] k x all is = cc
+each_at P (y ∷ ys) zero x all is = let same : y ≡ x = cc in subst P same all.0
+each_at P (y ∷ ys) (suc k) x all is = each_at P ys k x all.1 is
 
 pub each_from : {A : Type 0} (P : A → Type 0) (xs : List A) → ((a : A) → Has xs a → P a) → Each P xs
 each_from P [] f = tt
