@@ -1,0 +1,16 @@
+pub mod Places
+pub mod Writes
+pub mod Roots
+pub mod Words
+pub mod Numbers
+pub mod Entries
+pub mod Standing
+pub mod Pieces
+pub mod Binding
+pub mod Asking
+pub mod Calling
+pub mod Going
+pub mod Turning
+pub mod Answering
+pub mod Typing
+pub mod Handles
