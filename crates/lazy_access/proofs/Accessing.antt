@@ -18,8 +18,8 @@ use Rattle.eager_tree.specs.Visit.{next_cell, next_nodes, visit, visit_unless}
 use Rattle.eager_tree.specs.Steps.{on_span, access}
 use Rattle.lazy_tree.specs.declared.slot.Slot.{Slot}
 use Rattle.lazy_tree.specs.declared.tree.Node.{Node}
-use Rattle.lazy_tree.specs.Skip.{node_at, slot_at, no_slot, rank, IsSound, SameLinks, root_node, root_slot, IsPlanted}
-use Rattle.lazy_tree.specs.Stands.{eager_cell, eager_nodes, eager_with}
+use Rattle.lazy_tree.specs.Skip.{node_at, slot_at, no_slot, rank, IsSound, SameLinks, root_node, root_slot, IsRootAlone}
+use Rattle.lazy_tree.specs.Eager.{eager_cell, eager_nodes, eager_with}
 use Rattle.lazy_tree.proofs.Adding.{sound-root}
 use Rattle.lazy_tree.proofs.Finding.{tag-same, has-found, has-not}
 use Rattle.lazy_access.specs.declared.check.Found.{Found}
@@ -28,9 +28,9 @@ use Rattle.lazy_access.specs.Step.{is_denied, stepped}
 use Rattle.lazy_access.specs.Walk.{IsReached, IsMet, denies, Finds, NoDenial, IsLeast}
 use Rattle.lazy_access.specs.Change.{IsDone, IsJoined}
 use Rattle.lazy_access.specs.Requests.{local_in, violation_in}
-use Rattle.lazy_access.proofs.Places.{met-all, stands-itself}
+use Rattle.lazy_access.proofs.Places.{met-all, under-itself}
 use Rattle.lazy_access.proofs.Changing.{links-through}
-use Rattle.lazy_access.proofs.Ties.{Visits, visit-silent, visit-denied, Steps, visit-done, visit-refused, nodes-joined, links-same, eager_with-some, eager-stands}
+use Rattle.lazy_access.proofs.Ties.{Visits, visit-silent, visit-denied, Steps, visit-done, visit-refused, nodes-joined, links-same, eager_with-some, eager-under}
 
 pub on_span-in : (span : Span) (kind : Kind) (b : ℕ) → span.start ≤ b → b < span.start + span.len → on_span span kind b ≡ Some kind
 on_span-in span kind b from lt = grind (arith, nat_tests, from, lt)
@@ -156,15 +156,15 @@ map-replicate : (n : ℕ) (s : Slot) → map eager_cell (replicate n s) ≡ repl
 map-replicate zero s = refl
 map-replicate (suc n) s = ap (λ rest. eager_cell s ∷ rest) (map-replicate n s)
 
-pub planted-tree : (root : Tag) (size : ℕ) (runs : Ranges Slot) → runs.bytes ≡ replicate size root_slot → eager_with root size (root_node root runs ∷ []) ≡ new_tree size root
+pub root-tree : (root : Tag) (size : ℕ) (runs : Ranges Slot) → runs.bytes ≡ replicate size root_slot → eager_with root size (root_node root runs ∷ []) ≡ new_tree size root
 unfolding eager_nodes
-planted-tree root size runs e =
+root-tree root size runs e =
     ap (λ cells. (let t : Tree = record { size = size; nodes = record { tag = root; parent = None; guard = Free; cells = cells } ∷ [] } in t)) (ap (map eager_cell) e ∙ map-replicate size root_slot)
 
 root-local : (root : Tag) (size i : ℕ) → IsSound size (alone root size) → i < length (alone root size) → local_in (alone root size) 0 i ≡ true
 root-local root size i h lt =
     elim (cases_eq i 0) [
-      | inl here ↦ ap (local_in (alone root size) 0) here ∙ eager-stands size (alone root size) 0 0 h (omega arith) (omega arith) (stands-itself (alone root size) 0 h.linked (omega arith))
+      | inl here ↦ ap (local_in (alone root size) 0) here ∙ eager-under size (alone root size) 0 0 h (omega arith) (omega arith) (under-itself (alone root size) 0 h.linked (omega arith))
       | inr other ↦ absurd (omega (arith, other, lt))
     ]
 
@@ -185,7 +185,7 @@ pub root-visit : (root : Tag) (size : ℕ) (kinds : ℕ → Option Kind) (reache
 root-visit root size kinds reaches =
     let h = root-sound root size in
     let v : Visits size (alone root size) 0 (local_in (alone root size) 0) = visits-at size (alone root size) 0 h (omega arith) in
-    ap (λ (t : Tree). (let p : Option Violation × Tree = (None, t) in p)) (sym (planted-tree root size (root_runs size) refl))
+    ap (λ (t : Tree). (let p : Option Violation × Tree = (None, t) in p)) (sym (root-tree root size (root_runs size) refl))
     ∙ visit-done root size 0 (alone root size) (alone root size) (local_in (alone root size) 0) kinds reaches v
     (record {
       count = refl;
@@ -203,7 +203,7 @@ root-visit root size kinds reaches =
     (λ i b k lt in_size made r.
     subst (λ (s : Slot). is_denied (slot_outcome (node_at (alone root size) i).guard (local_in (alone root size) 0 i) k s) ≡ false) (sym (root-slot root size i b lt in_size))
     (subst (λ (l : Bool). is_denied (slot_outcome (node_at (alone root size) i).guard l k root_slot) ≡ false) (sym (root-local root size i h lt)) (root-fine k (node_at (alone root size) i).guard))))
-    ∙ ap (visit kinds reaches root) (planted-tree root size (root_runs size) refl)
+    ∙ ap (visit kinds reaches root) (root-tree root size (root_runs size) refl)
 
 -- every access through the root alone is clean and changes nothing
 pub access-root : (root tag : Tag) (size : ℕ) (span : Span) (kind : Kind) → tag ≡ root → (let p : Option Violation × Tree = (None, new_tree size root) in p) ≡ access (new_tree size root) tag span kind
@@ -227,12 +227,12 @@ pub access-none : (root : Tag) (size : ℕ) (nodes : List Node) (tag : Tag) (spa
 access-none root size nodes tag span kind none e =
     subst (λ (ns : List Node). (let p : Option Violation × Tree = (None, eager_with root size ns) in p) ≡ access (eager_with root size ns) tag span kind) (sym none) (access-root root tag size span kind e)
 
--- planted or not, the tree is the new one
-pub planted-same : {A E : Type 0} (r : Result A E) (root other : Tag) (size sum : ℕ) (before now : List Node) → before ≡ [] → other ≡ root → sum ≡ size → OnOk r (IsPlanted root size now) → OnErr r (now ≡ before) → eager_with other sum now ≡ eager_with root size before
-planted-same (Ok a) root other size sum before now none e s ok err =
+-- stored or not, the tree is the new one
+pub stored-same : {A E : Type 0} (r : Result A E) (root other : Tag) (size sum : ℕ) (before now : List Node) → before ≡ [] → other ≡ root → sum ≡ size → OnOk r (IsRootAlone root size now) → OnErr r (now ≡ before) → eager_with other sum now ≡ eager_with root size before
+stored-same (Ok a) root other size sum before now none e s ok err =
     ap (λ t. eager_with t sum now) e ∙ ap (λ n. eager_with root n now) s
-    ∙ ap (eager_with root size) ok.alone ∙ planted-tree root size (node_at now 0).runs ok.bytes ∙ ap (eager_with root size) (sym none)
-planted-same (Err x) root other size sum before now none e s ok err =
+    ∙ ap (eager_with root size) ok.alone ∙ root-tree root size (node_at now 0).runs ok.bytes ∙ ap (eager_with root size) (sym none)
+stored-same (Err x) root other size sum before now none e s ok err =
     ap (λ t. eager_with t sum now) e ∙ ap (λ n. eager_with root n now) s ∙ ap (eager_with root size) err
 
 -- the eager access that is denied, or not, by what a walk found

@@ -19,24 +19,24 @@ use Rattle.eager_tree.specs.Steps.{cell_at, implicit_kind, implicit_kinds, is_no
 use Rattle.lazy_tree.specs.declared.slot.Slot.{Slot}
 use Rattle.lazy_tree.specs.declared.tree.Node.{Node}
 use Rattle.lazy_tree.specs.Skip.{node_at, slot_at, no_node, with_free, IsSound, SameLinks}
-use Rattle.lazy_tree.specs.Stands.{eager_cell, eager_node, eager_nodes, eager_with, told}
+use Rattle.lazy_tree.specs.Eager.{eager_cell, eager_node, eager_nodes, eager_with, pair_of}
 use Rattle.lazy_tree.proofs.Finding.{parts, state-found}
 use Rattle.lazy_tree.proofs.SkipLemmas.{node-set, part-kept}
 use Rattle.lazy_access.specs.declared.check.Found.{Found}
-use Rattle.lazy_access.specs.Walk.{Stands, IsReached, denies}
+use Rattle.lazy_access.specs.Walk.{IsUnder, IsReached, denies}
 use Rattle.lazy_access.specs.Requests.{local_in, violation_in}
 use Rattle.lazy_access.specs.Ends.{end_kind, NoEndDenial, IsLeastEnd, IsEnded}
-use Rattle.lazy_access.proofs.Ties.{one-tag, stands-eager, eager-stands, Visits, visit-silent, visit-denied, Steps, visit-done, visit-refused, eager_with-some, node-parts, parents-same, eager_at, length-eager}
+use Rattle.lazy_access.proofs.Ties.{one-tag, under-eager, eager-under, Visits, visit-silent, visit-denied, Steps, visit-done, visit-refused, eager_with-some, node-parts, parents-same, eager_at, length-eager}
 use Rattle.lazy_access.proofs.Accessing.{visits-at, root-visit}
 
 -- the nodes of the eager tree
 tree-nodes : (root : Tag) (size : ℕ) (nodes : List Node) → 1 ≤ length nodes → (eager_with root size nodes).nodes ≡ eager_nodes nodes
 tree-nodes root size nodes some = ap (λ (t : Tree). t.nodes) (eager_with-some root size nodes some)
 
-cell-from : (o : Option Cell) (s : Slot) → option_map told o ≡ Some (parts s) → o ≡ Some (eager_cell s)
+cell-from : (o : Option Cell) (s : Slot) → option_map pair_of o ≡ Some (parts s) → o ≡ Some (eager_cell s)
 cell-from None s e = cc
 cell-from (Some c) s e =
-    let h : told c ≡ parts s = inside (told c) (parts s) e in
+    let h : pair_of c ≡ parts s = inside (pair_of c) (parts s) e in
     ap (λ (p : Perm × Bool). (let d : Cell = record { perm = p.0; accessed = p.1 } in Some d)) h
   where
     inside : (p q : Perm × Bool) → Some p ≡ Some q → p ≡ q
@@ -54,7 +54,7 @@ false-not-true false e f = cc
 -- the nodes that the end reaches
 reached-by : (size : ℕ) (nodes : List Node) (x i : ℕ) → IsSound size nodes → x < length nodes → i < length nodes → is_no_descendant (links (eager_nodes nodes)) (node_at nodes x).tag (node_at nodes i).tag ≡ true → IsReached nodes x false i
 reached-by size nodes x i h inside lt e none under =
-    let below = eager-stands size nodes i x h lt inside under in
+    let below = eager-under size nodes i x h lt inside under in
     let same : eqb (node_at nodes x).tag.0 (node_at nodes i).tag.0 ≡ true = only (eqb (node_at nodes x).tag.0 (node_at nodes i).tag.0) (is_on_path (links (eager_nodes nodes)) (node_at nodes i).tag (node_at nodes x).tag) below e in
     one-tag size nodes i x h lt inside (sym (eqb-true _ _ same))
   where
@@ -67,7 +67,7 @@ by-reached : (size : ℕ) (nodes : List Node) (x i : ℕ) → IsSound size nodes
 by-reached size nodes x i h inside lt reached =
     elim (cases_eq i x) [
       | inl same ↦ left (eqb (node_at nodes x).tag.0 (node_at nodes i).tag.0) _ (eq-eqb _ _ (ap (λ k. (node_at nodes k).tag.0) (sym same)))
-      | inr other ↦ right (eqb (node_at nodes x).tag.0 (node_at nodes i).tag.0) (is_on_path (links (eager_nodes nodes)) (node_at nodes i).tag (node_at nodes x).tag) (λ on. other (reached refl (stands-eager size nodes i x h lt inside on)))
+      | inr other ↦ right (eqb (node_at nodes x).tag.0 (node_at nodes i).tag.0) (is_on_path (links (eager_nodes nodes)) (node_at nodes i).tag (node_at nodes x).tag) (λ on. other (reached refl (under-eager size nodes i x h lt inside on)))
     ]
   where
     left : (a b : Bool) → a ≡ true → (a || b) ≡ true

@@ -13,7 +13,7 @@ use Rattle.lazy_tree.specs.declared.slot.Slot.{Slot}
 use Rattle.lazy_tree.specs.declared.tree.Node.{Node}
 use Rattle.lazy_tree.specs.Ring.{count}
 use Rattle.lazy_tree.specs.Skip.{node_at, slot_at, no_slot, need, rank, run_after, IsSound, SameLinks}
-use Rattle.lazy_tree.specs.Stands.{eager_cell}
+use Rattle.lazy_tree.specs.Eager.{eager_cell}
 use Rattle.lazy_tree.specs.Quiet.{slot_outcome}
 use Rattle.lazy_tree.proofs.Counting.{count-split, count-first, count-none, count-within}
 use Rattle.lazy_access.specs.declared.check.Found.{Found}

@@ -10,12 +10,12 @@ use Rattle.eager_tree.specs.Visit.{first_in, first_below}
 use Rattle.eager_tree.specs.Steps.{access, strong_at, is_strong, strong_free, freed_unless, free_all}
 use Rattle.lazy_tree.specs.declared.tree.Node.{Node}
 use Rattle.lazy_tree.specs.Skip.{node_at, slot_at, IsSound}
-use Rattle.lazy_tree.specs.Stands.{eager_nodes, eager_with}
+use Rattle.lazy_tree.specs.Eager.{eager_nodes, eager_with}
 use Rattle.lazy_access.specs.declared.frees.Held.{Held}
 use Rattle.lazy_access.specs.Held.{NoneHeld, IsFirstHeld, strong_free_of}
 use Rattle.lazy_access.proofs.Holding.{strong-none, strong-some}
 use Rattle.lazy_access.proofs.Ties.{eager_with-some}
-use Rattle.lazy_access.proofs.Accessing.{alone, root_runs, root-sound, planted-tree, access-root}
+use Rattle.lazy_access.proofs.Accessing.{alone, root_runs, root-sound, root-tree, access-root}
 
 abbrev pub whole : ℕ → Span
 whole size = record { start = 0; len = size }
@@ -70,5 +70,5 @@ pub free-none : (root : Tag) (size : ℕ) (nodes : List Node) (tag : Tag) → no
 free-none root size nodes tag none e =
     subst (λ (ns : List Node). (let p : Option Violation × Tree = (None, eager_with root size ns) in p) ≡ free_all (eager_with root size ns) tag) (sym none)
     (free-root root size tag
-    (ap strong_free (sym (planted-tree root size (root_runs size) refl)) ∙ strong-stored root size (alone root size) (omega arith) ∙ strong-none size (alone root size) (root-sound root size) (alone-held root size))
+    (ap strong_free (sym (root-tree root size (root_runs size) refl)) ∙ strong-stored root size (alone root size) (omega arith) ∙ strong-none size (alone root size) (root-sound root size) (alone-held root size))
     (access-root root tag size (whole size) Write e))

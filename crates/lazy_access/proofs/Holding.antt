@@ -11,7 +11,7 @@ use Rattle.eager_tree.specs.Steps.{is_strong, strong_at}
 use Rattle.eager_tree.proofs.Nodes.{first_below-found}
 use Rattle.lazy_tree.specs.declared.tree.Node.{Node}
 use Rattle.lazy_tree.specs.Skip.{node_at, slot_at, no_node, no_slot, IsSound}
-use Rattle.lazy_tree.specs.Stands.{eager_cell, eager_node, eager_nodes}
+use Rattle.lazy_tree.specs.Eager.{eager_cell, eager_node, eager_nodes}
 use Rattle.lazy_access.specs.declared.frees.Held.{Held}
 use Rattle.lazy_access.specs.Held.{holds, IsFirstHeld, NoneHeld, FindsHeld, IsFirstAccessed, FindsHeldBy, earlier_held, strong_free_of}
 use Rattle.lazy_access.proofs.Ties.{first_in-none, first_in-at, first_below-none, length-eager, eager_at}

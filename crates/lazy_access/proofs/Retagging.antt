@@ -22,14 +22,14 @@ use Rattle.lazy_tree.specs.declared.slot.Slot.{Slot}
 use Rattle.lazy_tree.specs.declared.slot.Level.{Level}
 use Rattle.lazy_tree.specs.declared.tree.Node.{Node}
 use Rattle.lazy_tree.specs.Skip.{node_at, slot_at, no_node, no_slot, rank, own_rank, IsSound, MayAdd, with_child}
-use Rattle.lazy_tree.specs.Stands.{eager_cell, eager_node, eager_nodes, eager_with}
+use Rattle.lazy_tree.specs.Eager.{eager_cell, eager_node, eager_nodes, eager_with}
 use Rattle.lazy_tree.proofs.SkipLemmas.{parent-before}
 use Rattle.lazy_tree.proofs.Adding.{length-with_child, child-at, old-part}
 use Rattle.lazy_access.specs.Change.{IsLowered}
 use Rattle.lazy_access.specs.Requests.{local_in, IsFreshSlot, IsChild}
-use Rattle.lazy_access.proofs.Places.{stands-itself, place-within}
+use Rattle.lazy_access.proofs.Places.{under-itself, place-within}
 use Rattle.lazy_access.proofs.Lowering.{lesser-two}
-use Rattle.lazy_access.proofs.Ties.{eager_with-some, eager-stands, node-parts, cells-same, parents-same, length-eager, eager_at}
+use Rattle.lazy_access.proofs.Ties.{eager_with-some, eager-under, node-parts, cells-same, parents-same, length-eager, eager_at}
 
 get_or-new_cells : (perm : Perm) (span : Span) (from n k : ℕ) (d : Cell) → k < n → get_or (new_cells perm span from n) k d ≡ (let c : Cell = record { perm = perm; accessed = is_within span (from + k) } in c)
 get_or-new_cells perm span from zero k d lt = absurd (omega arith)
@@ -126,7 +126,7 @@ may-add size before now x span kind guard level runs h lt l child e = record {
   own = λ b in_size. (let s = child.slots b in_size in rw s.0 (let r = s.2 in omega (arith, r)));
   parent = λ b in_size.
       let s = child.slots b in_size in
-      let on : local_in before x x ≡ true = eager-stands size before x x h lt lt (stands-itself before x h.linked lt) in
+      let on : local_in before x x ≡ true = eager-under size before x x h lt lt (under-itself before x h.linked lt) in
       let low : rank (slot_at now x b).level ≤ rank level = subst (λ (t : Slot). rank t.level ≤ rank level) (sym (l.done x b lt in_size (place-within before x h.linked lt) on)) (lesser-two (slot_at before x b).level level) in
       (let r = s.2 in omega (arith, low, e, r));
 }

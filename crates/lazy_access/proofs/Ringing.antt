@@ -21,15 +21,15 @@ use Rattle.perm_table.specs.declared.Guard.TheVariants.{Free}
 use Rattle.perm_table.specs.declared.Kind.TheVariants.{Read, Write}
 use Rattle.perm_table.specs.declared.RetagKind.{RetagKind}
 use Rattle.lazy_tree.specs.Ring.{count, is_in_ring, ring_size, is_cut, pieces}
-use Rattle.lazy_tree.specs.Skip.{node_at, no_node, slot_at, no_slot, root_slot, root_node, with_free, with_child, IsPlanted, bool_at, run_after, above, last_of, need, rank, IsLinked, IsSound}
-use Rattle.lazy_tree.specs.Stands.{eager_nodes, eager_with, eager_of}
+use Rattle.lazy_tree.specs.Skip.{node_at, no_node, slot_at, no_slot, root_slot, root_node, with_free, with_child, IsRootAlone, bool_at, run_after, above, last_of, need, rank, IsLinked, IsSound}
+use Rattle.lazy_tree.specs.Eager.{eager_nodes, eager_with, eager_of}
 use Rattle.lazy_tree.proofs.Counting.{IsCutOf, cut-at, cut-of, count-split, count-first, count-within, count-more, count-list}
-use Rattle.lazy_access.specs.Walk.{Stands, place_of, IsPath, IsCovered, IsQuietAll, in_ring, ring_of}
+use Rattle.lazy_access.specs.Walk.{IsUnder, place_of, IsPath, IsCovered, IsQuietAll, in_ring, ring_of}
 use Rattle.lazy_access.specs.Change.{AddsStarts, IsRoomier}
 use Rattle.lazy_access.specs.Requests.{local_in, IsChild}
-use Rattle.lazy_access.proofs.Places.{place_at, stands-itself, stands-up, stands-down, stands-through, place-one, next-place}
+use Rattle.lazy_access.proofs.Places.{place_at, under-itself, under-up, under-down, under-through, place-one, next-place}
 use Rattle.lazy_access.proofs.Changing.{next_start-cases}
-use Rattle.lazy_access.proofs.Ties.{length-links, link_at, eager_with-some, eager-stands}
+use Rattle.lazy_access.proofs.Ties.{length-links, link_at, eager_with-some, eager-under}
 use Rattle.lazy_access.proofs.Accessing.{links-eager, root-alone}
 use Rattle.lazy_tree.proofs.SkipLemmas.{part-kept}
 use Rattle.lazy_tree.proofs.Adding.{sound-root, old-part, child-at, length-with_child}
@@ -151,8 +151,8 @@ true-false : true ≡ false → ⊥
 true-false e = cc
 
 -- a node of the path has its parent on the path
-path-over : (nodes : List Node) (x : ℕ) (marks : List Bool) (p k : ℕ) → IsLinked nodes → x < length nodes → IsPath nodes x marks → p < length nodes → k < length nodes → bool_at marks k ≡ true → Stands nodes p k → bool_at marks p ≡ true
-path-over nodes x marks p k h inside path low lt on under = path.down p low (stands-through nodes p k x h low lt inside under (path.up k lt on))
+path-over : (nodes : List Node) (x : ℕ) (marks : List Bool) (p k : ℕ) → IsLinked nodes → x < length nodes → IsPath nodes x marks → p < length nodes → k < length nodes → bool_at marks k ≡ true → IsUnder nodes p k → bool_at marks p ≡ true
+path-over nodes x marks p k h inside path low lt on under = path.down p low (under-through nodes p k x h low lt inside under (path.up k lt on))
 
 -- a walk that goes below the path's nodes alone meets the ring alone
 pub ring-next : (size : ℕ) (nodes : List Node) (x : ℕ) (marks : List Bool) (at k : ℕ) (next : Option ℕ) (deeper : Bool) → IsSound size nodes → x < length nodes → IsPath nodes x marks → at < length nodes → in_ring nodes (bool_at marks) at ≡ true →
@@ -166,15 +166,15 @@ ring-next size nodes x marks at k next deeper h inside path lt on local down pas
     one-on : deeper ≡ true → place_of nodes k ≡ place_of nodes at + 1
     one-on e = sym (ap (place_at nodes) is) ∙ next-place nodes at next h.linked lt (down e)
 
-    end : deeper ≡ false → Stands nodes at k → ⊥
+    end : deeper ≡ false → IsUnder nodes at k → ⊥
     end e under =
         let place : place_of nodes k ≡ place_at nodes (after_among (above nodes) (last_of nodes) at) = sym (ap (place_at nodes) is) ∙ ap (place_at nodes) (past e ∙ h.linked.after at lt) in
         (let l = under.last in omega (arith, l, place))
 
-    over : 1 ≤ k → Stands nodes (above nodes k) k
+    over : 1 ≤ k → IsUnder nodes (above nodes k) k
     over one =
         let less = h.linked.before k one low in
-        stands-down nodes (above nodes k) k h.linked (omega (arith, less, low)) low one (stands-itself nodes (above nodes k) h.linked (omega (arith, less, low)))
+        under-down nodes (above nodes k) k h.linked (omega (arith, less, low)) low one (under-itself nodes (above nodes k) h.linked (omega (arith, less, low)))
 
     place-less : 1 ≤ k → place_of nodes (above nodes k) < place_of nodes k
     place-less one =
@@ -186,11 +186,11 @@ ring-next size nodes x marks at k next deeper h inside path lt on local down pas
         ]
 
     -- the parent of the next node, where that is not the node at hand
-    strict : 1 ≤ k → above nodes k ≢ at → Stands nodes (above nodes k) at → bool_at marks (above nodes k) ≡ true
+    strict : 1 ≤ k → above nodes k ≢ at → IsUnder nodes (above nodes k) at → bool_at marks (above nodes k) ≡ true
     strict one other under =
         let less = h.linked.before k one low in
         let p_low : above nodes k < length nodes = omega (arith, less, low) in
-        let up = stands-up nodes (above nodes k) at h.linked p_low lt (λ same. other (sym same)) under in
+        let up = under-up nodes (above nodes k) at h.linked p_low lt (λ same. other (sym same)) under in
         let less_at = h.linked.before at up.0 lt in
         let a_low : above nodes at < length nodes = omega (arith, less_at, lt) in
         let parent_on : bool_at marks (above nodes at) ≡ true = or-two (eqb at 0) (bool_at marks (above nodes at)) (ne_eqb at 0 (λ zero_at. (let one_at = up.0 in omega (arith, one_at, zero_at)))) on in
@@ -198,15 +198,15 @@ ring-next size nodes x marks at k next deeper h inside path lt on local down pas
 
     itself : (d : Bool) → d ≡ deeper → 1 ≤ k → above nodes k ≡ at → bool_at marks (above nodes k) ≡ true
     itself true e one same = ap (bool_at marks) same ∙ local (sym e)
-    itself false e one same = absurd (end (sym e) (subst (λ j. Stands nodes j k) same (over one)))
+    itself false e one same = absurd (end (sym e) (subst (λ j. IsUnder nodes j k) same (over one)))
 
     between : (d : Bool) → d ≡ deeper → 1 ≤ k → place_of nodes at < place_of nodes (above nodes k) → ⊥
     between true e one less = (let l = one-on (sym e) in let apart = place-less one in omega (arith, less, l, apart))
     between false e one less =
         let less_k = h.linked.before k one low in
         let p_low : above nodes k < length nodes = omega (arith, less_k, low) in
-        let under_at : Stands nodes at (above nodes k) = record { first = omega (arith, less); last = (let place : place_of nodes k ≡ place_at nodes (after_among (above nodes) (last_of nodes) at) = sym (ap (place_at nodes) is) ∙ ap (place_at nodes) (past (sym e) ∙ h.linked.after at lt) in let l = place-less one in omega (arith, place, l)) } in
-        end (sym e) (stands-down nodes at k h.linked lt low one under_at)
+        let under_at : IsUnder nodes at (above nodes k) = record { first = omega (arith, less); last = (let place : place_of nodes k ≡ place_at nodes (after_among (above nodes) (last_of nodes) at) = sym (ap (place_at nodes) is) ∙ ap (place_at nodes) (past (sym e) ∙ h.linked.after at lt) in let l = place-less one in omega (arith, place, l)) } in
+        end (sym e) (under-down nodes at k h.linked lt low one under_at)
 
     parent-on : 1 ≤ k → bool_at marks (above nodes k) ≡ true
     parent-on one =
@@ -227,38 +227,38 @@ quiet-local nodes path kind span at true deeper quiet bare shut e =
     ] refl
 quiet-local nodes path kind span at false deeper quiet bare shut e = shut e refl
 
--- what the walk has told so far
-pub record IsRung (nodes : List Node) (path : ℕ → Bool) (span : Span) (here : Option ℕ) (old now : ℕ) : Type 0 where
-  pub told : now ≤ old + ring_before nodes path (place_at nodes here) * pieces nodes span
+-- how far the walk has raised the counter
+pub record IsRingCount (nodes : List Node) (path : ℕ → Bool) (span : Span) (here : Option ℕ) (old now : ℕ) : Type 0 where
+  pub visited : now ≤ old + ring_before nodes path (place_at nodes here) * pieces nodes span
   pub on : (k : ℕ) → here ≡ Some k → in_ring nodes path k ≡ true
 
-pub rung-start : (nodes : List Node) (path : ℕ → Bool) (span : Span) (old : ℕ) → IsRung nodes path span (Some 0) old old
-rung-start nodes path span old = record { told = omega arith; on = λ k e. (let zero_k : 0 ≡ k = cc in ring-root nodes path k (sym zero_k)) }
+pub ring-count-start : (nodes : List Node) (path : ℕ → Bool) (span : Span) (old : ℕ) → IsRingCount nodes path span (Some 0) old old
+ring-count-start nodes path span old = record { visited = omega arith; on = λ k e. (let zero_k : 0 ≡ k = cc in ring-root nodes path k (sym zero_k)) }
 
 times-more : (a b p : ℕ) → a + 1 ≤ b → a * p + p ≤ b * p
 times-more a b p le = (let one = mul-le-mul_right p le in let step : (a + 1) * p ≡ a * p + 1 * p = add-mul a 1 p in omega (arith, one, step))
 
-pub rung-more : (nodes : List Node) (path : ℕ → Bool) (span : Span) (at : ℕ) (next : Option ℕ) (old before now : ℕ) → at < length nodes → IsRung nodes path span (Some at) old before → place_of nodes at < place_at nodes next → now ≤ before + pieces nodes span → ((k : ℕ) → next ≡ Some k → in_ring nodes path k ≡ true) → IsRung nodes path span next old now
-rung-more nodes path span at next old before now lt h grows one on =
+pub ring-count-more : (nodes : List Node) (path : ℕ → Bool) (span : Span) (at : ℕ) (next : Option ℕ) (old before now : ℕ) → at < length nodes → IsRingCount nodes path span (Some at) old before → place_of nodes at < place_at nodes next → now ≤ before + pieces nodes span → ((k : ℕ) → next ≡ Some k → in_ring nodes path k ≡ true) → IsRingCount nodes path span next old now
+ring-count-more nodes path span at next old before now lt h grows one on =
     let more = ring-more nodes path at (place_at nodes next) lt (h.on at refl) grows in
     let times = times-more (ring_before nodes path (place_of nodes at)) (ring_before nodes path (place_at nodes next)) (pieces nodes span) more in
-    record { told = (let t = h.told in omega (arith, t, one, times)); on = on }
+    record { visited = (let t = h.visited in omega (arith, t, one, times)); on = on }
 
 pub times-upto : (a b p : ℕ) → a ≤ b → a * p ≤ b * p
 times-upto a b p le = mul-le-mul_right p le
 
 -- when the walk has come to its end, or breaks off
-pub rung-end : (nodes : List Node) (path : ℕ → Bool) (span : Span) (here : Option ℕ) (old now : ℕ) → IsRung nodes path span here old now → now ≤ old + ring_of nodes path * pieces nodes span
-rung-end nodes path span here old now h =
+pub ring-count-end : (nodes : List Node) (path : ℕ → Bool) (span : Span) (here : Option ℕ) (old now : ℕ) → IsRingCount nodes path span here old now → now ≤ old + ring_of nodes path * pieces nodes span
+ring-count-end nodes path span here old now h =
     let times = times-upto (ring_before nodes path (place_at nodes here)) (ring_of nodes path) (pieces nodes span) (ring-all nodes path (place_at nodes here)) in
-    let t = h.told in omega (arith, t, times)
+    let t = h.visited in omega (arith, t, times)
 
-pub rung-last : (nodes : List Node) (path : ℕ → Bool) (span : Span) (at : ℕ) (old before now : ℕ) → at < length nodes → IsRung nodes path span (Some at) old before → now ≤ before + pieces nodes span → now ≤ old + ring_of nodes path * pieces nodes span
-rung-last nodes path span at old before now lt h one =
+pub ring-count-last : (nodes : List Node) (path : ℕ → Bool) (span : Span) (at : ℕ) (old before now : ℕ) → at < length nodes → IsRingCount nodes path span (Some at) old before → now ≤ before + pieces nodes span → now ≤ old + ring_of nodes path * pieces nodes span
+ring-count-last nodes path span at old before now lt h one =
     let more = ring-more nodes path at (place_of nodes at + 1) lt (h.on at refl) (omega arith) in
     let all = ring-all nodes path (place_of nodes at + 1) in
     let times = times-more (ring_before nodes path (place_of nodes at)) (ring_of nodes path) (pieces nodes span) (omega (arith, more, all)) in
-    let t = h.told in omega (arith, t, one, times)
+    let t = h.visited in omega (arith, t, one, times)
 
 -- the same flags make the same ring
 pub ring-flags : (nodes : List Node) (one two : ℕ → Bool) → ((i : ℕ) → i < length nodes → one i ≡ two i) → IsLinked nodes → ring_of nodes one ≤ ring_of nodes two
@@ -302,12 +302,12 @@ ring-tags size nodes x h =
 
 -- the bound, in the words of the eager tree
 pub ring-bound : (root : Tag) (size : ℕ) (nodes : List Node) (x : ℕ) (tag : Tag) (p old now : ℕ) → IsSound size nodes → x < length nodes → (node_at nodes x).tag ≡ tag → now ≤ old + ring_of nodes (local_in nodes x) * p → now ≤ old + ring_size (links (eager_with root size nodes).nodes) tag * p
-ring-bound root size nodes x tag p old now h lt e told =
+ring-bound root size nodes x tag p old now h lt e visited =
     let times = times-upto (ring_of nodes (local_in nodes x)) (ring_size (links (eager_nodes nodes)) (node_at nodes x).tag) p (ring-tags size nodes x h) in
     let same : ring_size (links (eager_nodes nodes)) (node_at nodes x).tag ≡ ring_size (links (eager_with root size nodes).nodes) tag =
     ap (λ (t : Tree). ring_size (links t.nodes) (node_at nodes x).tag) (sym (eager_with-some root size nodes (omega (arith, lt)))) ∙ ap (ring_size (links (eager_with root size nodes).nodes)) e in
     let product : ring_size (links (eager_nodes nodes)) (node_at nodes x).tag * p ≡ ring_size (links (eager_with root size nodes).nodes) tag * p = ap (λ n. n * p) same in
-    omega (arith, told, times, product)
+    omega (arith, visited, times, product)
 
 -- what begins at most at the ends of a span adds no other cut
 pub cuts-added : (before after : List Node) (span : Span) (s : ℕ) → length after ≡ length before → AddsStarts before after span → is_cut after s ≡ true → (is_cut before s ≡ true) ⊎ ((s ≡ span.start) ⊎ (s ≡ span.start + span.len))
@@ -389,13 +389,13 @@ stored-quiet : (root : Tag) (size : ℕ) (runs : Ranges Slot) (kind : Kind) (spa
 stored-quiet root size runs kind span bytes within i lt b from to =
     let h : IsSound size (root_node root runs ∷ []) = sound-root root size runs (ap length bytes ∙ length-replicate size root_slot) (λ b lt. ap (λ (s : Slot). rank s.level) (ap (λ (l : List Slot). get_or l b no_slot) bytes ∙ get_or-replicate size b root_slot no_slot lt)) in
     let here : i ≡ 0 = omega (arith, lt) in
-    let on : is_on_path (links (eager_nodes (root_node root runs ∷ []))) root root ≡ true = eager-stands size (root_node root runs ∷ []) 0 0 h (omega arith) (omega arith) (stands-itself (root_node root runs ∷ []) 0 h.linked (omega arith)) in
+    let on : is_on_path (links (eager_nodes (root_node root runs ∷ []))) root root ≡ true = eager-under size (root_node root runs ∷ []) 0 0 h (omega arith) (omega arith) (under-itself (root_node root runs ∷ []) 0 h.linked (omega arith)) in
     let slot : get_or runs.bytes b no_slot ≡ root_slot = ap (λ (l : List Slot). get_or l b no_slot) bytes ∙ get_or-replicate size b root_slot no_slot (omega (arith, to, within)) in
     subst (λ k. IsQuietSlot (node_at (root_node root runs ∷ []) k).guard (is_on_path (links (eager_nodes (root_node root runs ∷ []))) root (node_at (root_node root runs ∷ []) k).tag) kind (slot_at (root_node root runs ∷ []) k b)) (sym here)
     (subst (λ (l : Bool). IsQuietSlot Free l kind (get_or runs.bytes b no_slot)) (sym on) (subst (IsQuietSlot Free true kind) (sym slot) (root-quiet kind)))
 
-pub quiet-planted : (t u : Shape) → t.nodes ≡ [] → u.root ≡ t.root → u.size ≡ t.size → eager_of u ≡ eager_of t → IsPlanted t.root t.size u.nodes → KeepsQuiet t u
-quiet-planted t u none root size eager planted tag span kind q =
+pub quiet-stored : (t u : Shape) → t.nodes ≡ [] → u.root ≡ t.root → u.size ≡ t.size → eager_of u ≡ eager_of t → IsRootAlone t.root t.size u.nodes → KeepsQuiet t u
+quiet-stored t u none root size eager planted tag span kind q =
     let alone = root-alone t.root t.size t.nodes tag q.node (λ i lt. absurd (let z : length t.nodes ≡ 0 = ap length none in omega (arith, lt, z))) in
     record {
       node = subst (λ (e : Tree). is_node e tag ≡ true) (sym eager) q.node;
@@ -406,8 +406,8 @@ quiet-planted t u none root size eager planted tag span kind q =
           (stored-quiet t.root t.size (node_at u.nodes 0).runs kind span planted.bytes q.within i (let l : length u.nodes ≡ 1 = ap length planted.alone in omega (arith, lt, l))));
     }
 
-pub cuts-planted : (t u : Shape) → t.nodes ≡ [] → IsPlanted t.root t.size u.nodes → KeepsCuts t u
-cuts-planted t u none planted s =
+pub cuts-stored : (t u : Shape) → t.nodes ≡ [] → IsRootAlone t.root t.size u.nodes → KeepsCuts t u
+cuts-stored t u none planted s =
     same-bools (is_cut u.nodes s) (is_cut t.nodes s)
     (λ e. absurd (no-cut s (cut-of (root_node t.root (node_at u.nodes 0).runs ∷ []) s (subst (λ (ns : List Node). is_cut ns s ≡ true) planted.alone e))))
     (λ e. absurd (let cut = cut-of t.nodes s e in let w = cut.1.within in let z : length t.nodes ≡ 0 = ap length none in omega (arith, w, z)))
@@ -449,6 +449,6 @@ pieces-roomier before now span r =
     let less = count-within (is_cut now) (is_cut before) (span.start + 1) (span.len - 1) (λ s low high e. sym (cuts-roomier before now s r) ∙ e) in omega (arith, less)
 
 -- stored or not, by the answer
-pub root-keeps : {A E : Type 0} (r : Result A E) (t u : Shape) → t.nodes ≡ [] → u.root ≡ t.root → u.size ≡ t.size → eager_of u ≡ eager_of t → OnOk r (IsPlanted t.root t.size u.nodes) → OnErr r (u.nodes ≡ t.nodes) → KeepsQuiet t u × KeepsCuts t u
-root-keeps (Ok a) t u none root size eager ok err = (quiet-planted t u none root size eager ok, cuts-planted t u none ok)
+pub root-keeps : {A E : Type 0} (r : Result A E) (t u : Shape) → t.nodes ≡ [] → u.root ≡ t.root → u.size ≡ t.size → eager_of u ≡ eager_of t → OnOk r (IsRootAlone t.root t.size u.nodes) → OnErr r (u.nodes ≡ t.nodes) → KeepsQuiet t u × KeepsCuts t u
+root-keeps (Ok a) t u none root size eager ok err = (quiet-stored t u none root size eager ok, cuts-stored t u none ok)
 root-keeps (Err x) t u none root size eager ok err = (quiet-same t u root size err, λ s. ap (λ (ns : List Node). is_cut ns s) err)

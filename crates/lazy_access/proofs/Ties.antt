@@ -22,12 +22,12 @@ use Rattle.eager_tree.proofs.Cells.{length-next_cells}
 use Rattle.lazy_tree.specs.declared.slot.Slot.{Slot}
 use Rattle.lazy_tree.specs.declared.tree.Node.{Node as Stored}
 use Rattle.lazy_tree.specs.Skip.{node_at, slot_at, no_node, no_slot, bool_at, above, IsSound}
-use Rattle.lazy_tree.specs.Stands.{eager_cell, eager_node, eager_nodes, eager_with}
+use Rattle.lazy_tree.specs.Eager.{eager_cell, eager_node, eager_nodes, eager_with}
 use Rattle.lazy_tree.specs.Quiet.{slot_outcome}
 use Rattle.lazy_access.specs.Step.{is_denied}
-use Rattle.lazy_access.specs.Walk.{Stands, IsPath, denies}
+use Rattle.lazy_access.specs.Walk.{IsUnder, IsPath, denies}
 use Rattle.lazy_access.specs.Change.{IsJoined}
-use Rattle.lazy_access.proofs.Places.{stands-itself, stands-up, stands-down}
+use Rattle.lazy_access.proofs.Places.{under-itself, under-up, under-down}
 
 -- the parent of a node by its tag
 parent_in-rising : (all ns : List Stored) (k : ℕ) → k < length ns → ((j : ℕ) → j < k → (get_or ns j no_node).tag.0 < (get_or ns k no_node).tag.0) →
@@ -71,12 +71,12 @@ false-not-true false e f = cc
 
 -- by tags a node leads to those on its path alone
 pub record Leads (nodes : List Stored) (m k i : ℕ) : Type 0 where
-  pub up : leads_to m (links (eager_nodes nodes)) (node_at nodes k).tag (node_at nodes i).tag ≡ true → Stands nodes i k
-  pub down : Stands nodes i k → leads_to m (links (eager_nodes nodes)) (node_at nodes k).tag (node_at nodes i).tag ≡ true
+  pub up : leads_to m (links (eager_nodes nodes)) (node_at nodes k).tag (node_at nodes i).tag ≡ true → IsUnder nodes i k
+  pub down : IsUnder nodes i k → leads_to m (links (eager_nodes nodes)) (node_at nodes k).tag (node_at nodes i).tag ≡ true
 
 leads-here : (size : ℕ) (nodes : List Stored) (m k i : ℕ) → IsSound size nodes → i < length nodes → k ≡ i → Leads nodes m k i
 leads-here size nodes m k i h low same = record {
-  up = λ e. subst (λ j. Stands nodes i j) (sym same) (stands-itself nodes i h.linked low);
+  up = λ e. subst (λ j. IsUnder nodes i j) (sym same) (under-itself nodes i h.linked low);
   down = λ s. leads_to-here m (links (eager_nodes nodes)) (node_at nodes k).tag (node_at nodes i).tag (eq-eqb _ _ (ap (λ j. (node_at nodes j).tag.0) same));
 }
 
@@ -89,7 +89,7 @@ leads-root size nodes m k i h low high ne zero_k =
     parent_in-at size nodes k h low ∙ ap (option_map (λ p. (node_at nodes p).tag)) (ap (λ j. (node_at nodes j).parent) zero_k ∙ h.linked.root) in
     record {
       up = λ e. absurd (false-not-true _ (leads_to-root m (links (eager_nodes nodes)) (node_at nodes k).tag (node_at nodes i).tag (apart size nodes k i h low high ne) none) e);
-      down = λ s. absurd (let over = stands-up nodes i k h.linked high low ne s in let some = over.0 in omega (arith, some, zero_k));
+      down = λ s. absurd (let over = under-up nodes i k h.linked high low ne s in let some = over.0 in omega (arith, some, zero_k));
     }
 
 pub leads : (m : ℕ) (size : ℕ) (nodes : List Stored) (k i : ℕ) → k ≤ m → IsSound size nodes → k < length nodes → i < length nodes → Leads nodes m k i
@@ -108,8 +108,8 @@ leads (suc m) size nodes k i le h low high =
             parent_in-at size nodes k h low ∙ ap (option_map (λ p. (node_at nodes p).tag)) (h.linked.parents k one low) in
             let step = leads_to-step m (links (eager_nodes nodes)) (node_at nodes k).tag (node_at nodes i).tag (node_at nodes (above nodes k)).tag (apart size nodes k i h low high ne) up in
             record {
-              up = λ e. stands-down nodes i k h.linked high low one (rest.up (sym step ∙ e));
-              down = λ s. step ∙ rest.down (stands-up nodes i k h.linked high low ne s).1;
+              up = λ e. under-down nodes i k h.linked high low one (rest.up (sym step ∙ e));
+              down = λ s. step ∙ rest.down (under-up nodes i k h.linked high low ne s).1;
             }
       ]
     ]
@@ -127,15 +127,15 @@ on-path : (size : ℕ) (nodes : List Stored) (k i : ℕ) → IsSound size nodes 
 on-path size nodes k i h low high = leads (length (links (eager_nodes nodes))) size nodes k i (omega (arith, low, length-links nodes)) h low high
 
 -- a node stands below another where the eager tree says so
-pub stands-eager : (size : ℕ) (nodes : List Stored) (k i : ℕ) → IsSound size nodes → k < length nodes → i < length nodes → is_on_path (links (eager_nodes nodes)) (node_at nodes k).tag (node_at nodes i).tag ≡ true → Stands nodes i k
-stands-eager size nodes k i h low high e = (on-path size nodes k i h low high).up e
+pub under-eager : (size : ℕ) (nodes : List Stored) (k i : ℕ) → IsSound size nodes → k < length nodes → i < length nodes → is_on_path (links (eager_nodes nodes)) (node_at nodes k).tag (node_at nodes i).tag ≡ true → IsUnder nodes i k
+under-eager size nodes k i h low high e = (on-path size nodes k i h low high).up e
 
-pub eager-stands : (size : ℕ) (nodes : List Stored) (k i : ℕ) → IsSound size nodes → k < length nodes → i < length nodes → Stands nodes i k → is_on_path (links (eager_nodes nodes)) (node_at nodes k).tag (node_at nodes i).tag ≡ true
-eager-stands size nodes k i h low high s = (on-path size nodes k i h low high).down s
+pub eager-under : (size : ℕ) (nodes : List Stored) (k i : ℕ) → IsSound size nodes → k < length nodes → i < length nodes → IsUnder nodes i k → is_on_path (links (eager_nodes nodes)) (node_at nodes k).tag (node_at nodes i).tag ≡ true
+eager-under size nodes k i h low high s = (on-path size nodes k i h low high).down s
 
 pub path-eager : (size : ℕ) (nodes : List Stored) (x : ℕ) (marks : List Bool) (i : ℕ) → IsSound size nodes → x < length nodes → IsPath nodes x marks → i < length nodes → bool_at marks i ≡ is_on_path (links (eager_nodes nodes)) (node_at nodes x).tag (node_at nodes i).tag
 path-eager size nodes x marks i h inside path lt =
-    same-bools (bool_at marks i) _ (λ e. eager-stands size nodes x i h inside lt (path.up i lt e)) (λ e. path.down i lt (stands-eager size nodes x i h inside lt e))
+    same-bools (bool_at marks i) _ (λ e. eager-under size nodes x i h inside lt (path.up i lt e)) (λ e. path.down i lt (under-eager size nodes x i h inside lt e))
 
 -- the first answer along a list, by places
 pub first_in-none : {A B : Type 0} (f : A → Option B) (xs : List A) (d : A) → ((i : ℕ) → i < length xs → f (get_or xs i d) ≡ None) → first_in f xs ≡ None

@@ -7,7 +7,7 @@ use Rattle.eager_tree.specs.Steps.{implicit_kind}
 use Rattle.lazy_tree.specs.declared.tree.Node.{Node}
 use Rattle.lazy_tree.specs.Ring.{count}
 use Rattle.lazy_tree.specs.Skip.{node_at, slot_at, need, rank, SameLinks}
-use Rattle.lazy_tree.specs.Stands.{eager_cell}
+use Rattle.lazy_tree.specs.Eager.{eager_cell}
 use Rattle.lazy_access.specs.declared.check.Found.{Found}
 use Rattle.lazy_access.specs.Walk.{IsReached, denies}
 use Rattle.lazy_access.specs.Requests.{local_in}

@@ -9,7 +9,7 @@ use Rattle.perm_table.specs.declared.RetagKind.{RetagKind}
 use Rattle.eager_tree.specs.Tree.{links}
 use Rattle.lazy_tree.specs.Quiet.{IsQuiet}
 use Rattle.lazy_tree.specs.Ring.{ring_size, pieces}
-use Rattle.lazy_tree.specs.Stands.{eager_of}
+use Rattle.lazy_tree.specs.Eager.{eager_of}
 use Rattle.lazy_tree.specs.Shape.{Shape}
 use Rattle.lazy_tree.specs.Skip.{node_at}
 use Rattle.lazy_access.specs.declared.request.TreeRequest.{TreeRequest}

@@ -14,7 +14,7 @@ use Rattle.eager_tree.specs.Tree.{links, is_on_path}
 use Rattle.lazy_tree.specs.declared.tree.Node.{Node}
 use Rattle.lazy_tree.specs.Shape.{Shape}
 use Rattle.lazy_tree.specs.Skip.{node_at, no_slot, rank, own_rank, BeginsAt}
-use Rattle.lazy_tree.specs.Stands.{eager_nodes}
+use Rattle.lazy_tree.specs.Eager.{eager_nodes}
 use Rattle.eager_tree.specs.declared.violation.Violation.{Violation}
 use Rattle.eager_tree.specs.declared.violation.Violation.TheVariants.{Denied}
 use Rattle.lazy_access.specs.declared.check.Found.{Found}

@@ -3,7 +3,7 @@ ghost use Rattle.std.specs.Prelude.{◌≡◌, ℕ, ◌+◌, ◌*◌, ◌<◌, �
 ghost use Rattle.eager_tree.specs.Tree.{is_node, links};
 ghost use Rattle.eager_tree.specs.Steps.{access as access_of};
 ghost use Rattle.lazy_tree.specs.Skip.{node_at};
-ghost use Rattle.lazy_tree.specs.Stands.{eager_of, eager_with};
+ghost use Rattle.lazy_tree.specs.Eager.{eager_of, eager_with};
 ghost use Rattle.lazy_tree.specs.Quiet.{IsQuiet};
 ghost use Rattle.lazy_tree.specs.Ring.{ring_size, is_cut, pieces};
 ghost use Rattle.lazy_access.specs.Change.{AddsStarts};

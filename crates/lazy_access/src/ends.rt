@@ -3,7 +3,7 @@ ghost use Rattle.std.specs.Prelude.{◌≡◌, ℕ, ◌+◌, ◌-◌, ◌*◌, �
 ghost use Rattle.eager_tree.specs.Tree.{is_node};
 ghost use Rattle.eager_tree.specs.Steps.{implicit_kind, end_protector as end_of};
 ghost use Rattle.lazy_tree.specs.Skip.{node_at, run_after};
-ghost use Rattle.lazy_tree.specs.Stands.{eager_cell, eager_of};
+ghost use Rattle.lazy_tree.specs.Eager.{eager_cell, eager_of};
 ghost use Rattle.lazy_access.specs.Change.{AddsStarts};
 ghost use Rattle.lazy_access.specs.Requests.{HasWalk};
 ghost use Rattle.lazy_tree.specs.Ring.{is_cut};
@@ -48,7 +48,7 @@ fn run_denial(tree: &mut LazyTree, x: usize, at: u32) -> Option<Found>
         start: at,
         len: tree.run_end(x, at) - at,
     };
-    match implicit(tree.tell(x, at)) {
+    match implicit(tree.read_slot(x, at)) {
         Some(kind) => {
             let access = Access {
                 node: x,
@@ -100,7 +100,7 @@ fn end_run(tree: &mut LazyTree, x: usize, at: u32)
         start: at,
         len: tree.run_end(x, at) - at,
     };
-    if let Some(kind) = implicit(tree.tell(x, at)) {
+    if let Some(kind) = implicit(tree.read_slot(x, at)) {
         let access = Access {
             node: x,
             span,

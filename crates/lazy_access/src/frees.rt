@@ -3,7 +3,7 @@ ghost use Rattle.std.specs.Prelude.{◌≡◌, ℕ, ◌+◌, ◌<◌, ◌≤◌,
 ghost use Rattle.eager_tree.specs.Tree.{is_node};
 ghost use Rattle.eager_tree.specs.Steps.{free_all as free_of};
 ghost use Rattle.lazy_tree.specs.Skip.{node_at};
-ghost use Rattle.lazy_tree.specs.Stands.{eager_of};
+ghost use Rattle.lazy_tree.specs.Eager.{eager_of};
 ghost use Rattle.lazy_access.specs.Requests.{HasWalk};
 ghost use Rattle.lazy_tree.specs.Ring.{is_cut};
 ghost use Rattle.lazy_access.specs.Ready.{IsReadyFor};
@@ -36,7 +36,7 @@ fn first_accessed(tree: &mut LazyTree, node: usize) -> Option<Held>
     let size = tree.size();
     let mut at = 0;
     'runs: while at < size {
-        let slot = tree.tell(node, at);
+        let slot = tree.read_slot(node, at);
         if slot.accessed {
             return Some(Held {
                 node,

@@ -3,7 +3,7 @@ ghost use Rattle.std.specs.Prelude.{◌≡◌, ℕ, ◌+◌, ◌*◌, ◌<◌, �
 ghost use Rattle.eager_tree.specs.Tree.{links};
 ghost use Rattle.lazy_tree.specs.Quiet.{IsQuiet, KeepsQuiet, KeepsCuts};
 ghost use Rattle.lazy_tree.specs.Ring.{ring_size, pieces};
-ghost use Rattle.lazy_tree.specs.Stands.{eager_of};
+ghost use Rattle.lazy_tree.specs.Eager.{eager_of};
 ghost use Rattle.lazy_access.specs.Change.{IsRoomier};
 ghost use Rattle.lazy_access.specs.Requests.{IsChild};
 ghost use Rattle.lazy_access.specs.Ready.{IsReadyToAccess, IsReadyToRetag, IsReadyToEnd, IsReadyFor, IsWithinRing, Fits};
@@ -53,7 +53,7 @@ fn store_root(tree: &mut LazyTree) -> Result<(), NoMemory>
     ensures cuts { KeepsCuts tree.old tree.new }
 {
     if tree.len() == 0 {
-        tree.plant()
+        tree.store_root()
     } else {
         Ok(())
     }

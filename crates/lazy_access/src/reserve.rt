@@ -78,11 +78,11 @@ pub fn reserve_cuts(tree: &mut LazyTree, access: Access, runs: u32) -> Result<()
     ensures room { OnOk result (HasRoom tree.new.nodes access.node access.below access.span access.kind runs) }
 {
     tree.soundness();
-    let Scratch { mut path, opened } = tree.lend();
+    let Scratch { mut path, opened } = tree.take_scratch();
     mark_path(tree, access.node, &mut path);
     let made = reserve_marked(tree, access, runs, path.as_slice());
     clear_path(tree, access.node, &mut path);
-    tree.settle(Scratch { path, opened });
+    tree.return_scratch(Scratch { path, opened });
     made
 }
 
@@ -118,7 +118,7 @@ fn reserve_run(tree: &mut LazyTree, x: usize, at: u32, runs: u32) -> Result<(), 
         start: at,
         len: tree.run_end(x, at) - at,
     };
-    match implicit(tree.tell(x, at)) {
+    match implicit(tree.read_slot(x, at)) {
         Some(kind) => {
             let access = Access {
                 node: x,

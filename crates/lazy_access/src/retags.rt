@@ -2,7 +2,7 @@
 ghost use Rattle.std.specs.Prelude.{◌≡◌, ℕ, ◌+◌, ◌<◌, ◌≤◌, ◌⊎◌, length, IsTrue, All, OnSome, None};
 ghost use Rattle.eager_tree.specs.Tree.{is_node};
 ghost use Rattle.eager_tree.specs.Steps.{retag as retag_of};
-ghost use Rattle.lazy_tree.specs.Stands.{eager_of};
+ghost use Rattle.lazy_tree.specs.Eager.{eager_of};
 ghost use Rattle.lazy_tree.specs.Ring.{is_cut};
 ghost use Rattle.lazy_access.specs.Ready.{IsReadyFor};
 ghost use Rattle.lazy_access.specs.declared.request.TreeRequest.TheVariants.{Retag as ToRetag};

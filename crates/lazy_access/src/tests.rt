@@ -1,6 +1,6 @@
 //! Runs whose outcomes are known from elsewhere.
 ghost use Rattle.std.specs.Prelude.{◌≤◌, ◌<◌, length, All, IsTrue};
-ghost use Rattle.lazy_tree.specs.Stands.{eager_of};
+ghost use Rattle.lazy_tree.specs.Eager.{eager_of};
 
 use crate::readiness::fits;
 use crate::{TreeRequest, access, prepare, retag};
@@ -15,21 +15,19 @@ fn ask_send<T: Send>(_: &T) {}
 fn is_newest(tree: &LazyTree, tag: Tag) -> bool
     ensures { IsTrue result → 1 ≤ length tree.now.nodes → All (λ n. n.tag.0 < tag.0) (eager_of tree.now).nodes }
 {
-    for node in 0..tree.len() {
+    let count = tree.len();
+    let mut node = 0;
+    'nodes: while node < count {
         if tag.0 <= tree.tag(node).0 {
             return false;
         }
+        node += 1;
     }
     true
 }
 
 // An access, prepared and done: how far it raised the counter, where it is clean.
-fn reach(
-    tree: &mut LazyTree,
-    tag: Tag,
-    span: Span,
-    kind: Kind,
-) -> Result<Option<u64>, NoMemory> {
+fn reach(tree: &mut LazyTree, tag: Tag, span: Span, kind: Kind) -> Result<Option<u64>, NoMemory> {
     prepare(tree, &TreeRequest::Access { tag, span, kind })?;
     let before = tree.visits();
     if tree.has(tag) && fits(tree, span) && access(tree, tag, span, kind).is_none() {

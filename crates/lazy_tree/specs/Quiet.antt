@@ -16,7 +16,7 @@ use Rattle.lazy_tree.specs.declared.tree.Node.{Node}
 use Rattle.lazy_tree.specs.Ring.{is_cut}
 use Rattle.lazy_tree.specs.Shape.{Shape}
 use Rattle.lazy_tree.specs.Skip.{node_at, slot_at, need, rank}
-use Rattle.lazy_tree.specs.Stands.{eager_nodes, eager_of}
+use Rattle.lazy_tree.specs.Eager.{eager_nodes, eager_of}
 
 abbrev pub slot_outcome : Guard → Bool → Kind → Slot → Outcome
 slot_outcome guard local kind slot = outcome slot.perm slot.accessed guard local kind

@@ -66,7 +66,7 @@ pub record KeepsSkip (size : ℕ) (nodes : List Node) : Type 0 where
   pub own : (i b : ℕ) → i < length nodes → b < size → rank (slot_at nodes i b).level ≤ own_rank (slot_at nodes i b).perm (node_at nodes i).guard
   pub above : (i p b : ℕ) → i < length nodes → b < size → (node_at nodes i).parent ≡ Some p → rank (slot_at nodes p b).level ≤ rank (slot_at nodes i b).level
 
--- the root alone has no parent, each other node's stands before it, and the links give the walk's order
+-- the root alone has no parent, each other node's comes before it, and the links give the walk's order
 pub record IsLinked (nodes : List Node) : Type 0 where
   pub root : (node_at nodes 0).parent ≡ None
   pub parents : (i : ℕ) → 1 ≤ i → i < length nodes → (node_at nodes i).parent ≡ Some (above nodes i)
@@ -115,7 +115,7 @@ with_free nodes i = slice_set nodes i (record (node_at nodes i) { guard = Free }
 abbrev pub root_node : Tag → Ranges Slot → Node
 root_node root runs = record { tag = root; parent = None; next = None; after = None; guard = Free; runs = runs }
 
--- a new child, which stands directly behind its parent
+-- a new child, which comes directly after its parent
 abbrev pub child_node : List Node → ℕ → Tag → Guard → Ranges Slot → Node
 child_node nodes p tag guard runs = record { tag = tag; parent = Some p; next = (node_at nodes p).next; after = (node_at nodes p).next; guard = guard; runs = runs }
 
@@ -133,7 +133,7 @@ pub record MayAdd (size : ℕ) (nodes : List Node) (p : ℕ) (guard : Guard) (ru
 abbrev pub root_slot : Slot
 root_slot = record { perm = Unique; accessed = true; level = Nothing }
 
-pub record IsPlanted (root : Tag) (size : ℕ) (nodes : List Node) : Type 0 where
+pub record IsRootAlone (root : Tag) (size : ℕ) (nodes : List Node) : Type 0 where
   pub alone : nodes ≡ root_node root (node_at nodes 0).runs ∷ []
   pub bytes : (node_at nodes 0).runs.bytes ≡ replicate size root_slot
   pub starts : (node_at nodes 0).runs.starts ≡ 0 ∷ []
@@ -150,7 +150,7 @@ pub record IsReadyChild (size : ℕ) (fresh touched : Slot) (span : Span) (runs 
 abbrev pub IsReady : ℕ → Slot → Slot → Span → Option (Ranges Slot) → Type 0
 IsReady size fresh touched span made = MatchOption made ⊥ (IsReadyChild size fresh touched span)
 
--- the counter stands still at its end
+-- the counter stops at its greatest value
 abbrev pub counted : Shape → Shape
 counted t = record t { visits = min (t.visits + 1) (2 ^ 64 - 1) }
 

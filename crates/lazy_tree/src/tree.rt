@@ -2,8 +2,8 @@
 ghost use Rattle.std.specs.Prelude.{◌≡◌, ℕ, ◌+◌, ◌<◌, ◌≤◌, length, [], None, OnOk, OnErr, IfSome, MatchOption, IsTrue, vec_capacity};
 ghost use Rattle.range_map.specs.Ranges.{IsRanges, has_start, with_start};
 ghost use Rattle.eager_tree.specs.Tree.{is_node};
-ghost use Rattle.lazy_tree.specs.Skip.{node_at, slot_at, run_after, with_runs, put_in, with_free, with_child, counted, MayPut, MayAdd, IsPlanted, IsReady, IsSound, IsClear};
-ghost use Rattle.lazy_tree.specs.Stands.{eager_of, state_in};
+ghost use Rattle.lazy_tree.specs.Skip.{node_at, slot_at, run_after, with_runs, put_in, with_free, with_child, counted, MayPut, MayAdd, IsRootAlone, IsReady, IsSound, IsClear};
+ghost use Rattle.lazy_tree.specs.Eager.{eager_of, state_in};
 
 use crate::slot::{Level, Slot};
 use bsan_ids::{NoMemory, Span, Tag};
@@ -28,7 +28,7 @@ struct Node {
 /// The tree of tags of an allocation, which stands for an eager tree.
 ///
 /// No node is stored before the first retag. Tags rise along the nodes. The counter rises by one with
-/// each call that tells or changes a state, a flag or a level, and stands still at its end.
+/// each call that reads or changes a state, a flag or a level, up to its greatest value.
 #[derive(Drop)]
 pub struct LazyTree {
     root: Tag,
@@ -81,7 +81,7 @@ impl LazyTree {
         }
     }
 
-    /// The counter: how many runs of nodes were told or changed.
+    /// The counter: how many runs of nodes were read or changed.
     pub fn visits(&self) -> u64
         ensures { result ≡ self.now.visits }
     {
@@ -102,7 +102,7 @@ impl LazyTree {
         self.nodes.len()
     }
 
-    /// Tells the caller's proof what holds of every lazy tree. Nothing is done.
+    /// What holds of every lazy tree, for the caller's proof. Nothing is done.
     pub fn soundness(&self)
         ensures some { 1 ≤ self.now.size }
         ensures sound { IsSound self.now.size self.now.nodes }
@@ -110,13 +110,13 @@ impl LazyTree {
         let _ = &self.root;
     }
 
-    /// Tells the caller's proof what holds of the runs of a node. Nothing is done.
+    /// What holds of the runs of a node, for the caller's proof. Nothing is done.
     pub fn soundness_of(&self, node: usize)
         requires { node < length self.now.nodes }
         ensures { IsRanges (node_at self.now.nodes node).runs }
     {
-        let told = &self.nodes[node];
-        told.runs.soundness();
+        let read = &self.nodes[node];
+        read.runs.soundness();
     }
 
     /// The tag of a node.
@@ -135,7 +135,7 @@ impl LazyTree {
         self.nodes[node].guard
     }
 
-    /// The parent of a node, which stands before it. The root has none.
+    /// The parent of a node, which comes before it in the list. The root has none.
     pub fn parent(&self, node: usize) -> Option<usize>
         requires { node < length self.now.nodes }
         ensures { result ≡ (node_at self.now.nodes node).parent }
@@ -143,7 +143,7 @@ impl LazyTree {
         self.nodes[node].parent
     }
 
-    /// The node that a walk meets behind this one: a child, if it has one.
+    /// The node that a walk meets after this one: a child, if it has one.
     pub fn next(&self, node: usize) -> Option<usize>
         requires { node < length self.now.nodes }
         ensures { result ≡ (node_at self.now.nodes node).next }
@@ -151,7 +151,7 @@ impl LazyTree {
         self.nodes[node].next
     }
 
-    /// The node that a walk meets behind this one and all nodes below it.
+    /// The node that a walk meets after this one and all nodes below it.
     pub fn after(&self, node: usize) -> Option<usize>
         requires { node < length self.now.nodes }
         ensures { result ≡ (node_at self.now.nodes node).after }
@@ -168,12 +168,12 @@ impl LazyTree {
         ensures within { result ≤ self.now.size }
         ensures uniform { (b : ℕ) → at ≤ b → b < result → slot_at self.now.nodes node b ≡ slot_at self.now.nodes node at }
     {
-        let told = &self.nodes[node];
-        told.runs.run_end(at)
+        let read = &self.nodes[node];
+        read.runs.run_end(at)
     }
 
     /// The slot of a node at a byte, and of the run that has it.
-    pub fn tell(&mut self, node: usize, at: u32) -> Slot
+    pub fn read_slot(&mut self, node: usize, at: u32) -> Slot
         requires node { node < length self.old.nodes }
         requires within { at < self.old.size }
         ensures slot { result ≡ slot_at self.old.nodes node at }
@@ -253,8 +253,8 @@ impl LazyTree {
         self.nodes[node].guard = Guard::Free;
     }
 
-    /// Lends the room of a walk, to be given back by `settle`. No mark is set.
-    pub fn lend(&mut self) -> Scratch
+    /// Lends the room of a walk, to be given back by `return_scratch`. No mark is set.
+    pub fn take_scratch(&mut self) -> Scratch
         ensures marks { length result.path.items ≡ self.old.marks }
         ensures clear { IsClear result.path.items }
         ensures opened { result.opened.items ≡ [] }
@@ -269,7 +269,7 @@ impl LazyTree {
     }
 
     /// Takes the room of a walk back. No mark is set.
-    pub fn settle(&mut self, scratch: Scratch)
+    pub fn return_scratch(&mut self, scratch: Scratch)
         requires clear { IsClear scratch.path.items }
         ensures tree { self.new ≡ record self.old { marks = length scratch.path.items; list_room = vec_capacity scratch.opened } }
     {
@@ -343,9 +343,9 @@ impl LazyTree {
     /// # Errors
     ///
     /// `NoMemory`: out of memory. No node is stored.
-    pub fn plant(&mut self) -> Result<(), NoMemory>
+    pub fn store_root(&mut self) -> Result<(), NoMemory>
         requires { self.old.nodes ≡ [] }
-        ensures ok { OnOk result (IsPlanted self.old.root self.old.size self.new.nodes) }
+        ensures ok { OnOk result (IsRootAlone self.old.root self.old.size self.new.nodes) }
         ensures err { OnErr result (self.new.nodes ≡ self.old.nodes) }
         ensures tree { self.new ≡ record self.old { nodes = self.new.nodes; spare = self.new.spare } }
     {

@@ -5,7 +5,7 @@ use Rattle.lazy_tree.specs.Ring.{ring_size, pieces}
 use Rattle.lazy_access.proofs.Ringing.{cuts-added}
 use Rattle.eager_tree.specs.Steps.{access}
 use Rattle.lazy_tree.specs.Shape.{Shape}
-use Rattle.lazy_tree.specs.Stands.{eager_with}
+use Rattle.lazy_tree.specs.Eager.{eager_with}
 use Rattle.lazy_tree.specs.Quiet.{IsQuiet}
 use Rattle.lazy_access.proofs.Accessing.{root-alone, access-none}
 use Rattle.lazy_access.proofs.Reserving.{cuts-room}

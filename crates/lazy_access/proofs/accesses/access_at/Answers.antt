@@ -8,7 +8,7 @@ use Rattle.range_map.specs.Ranges.{has_start}
 use Rattle.lazy_tree.specs.Shape.{Shape}
 use Rattle.lazy_access.specs.Change.{AddsStarts}
 use Rattle.lazy_tree.specs.Skip.{node_at, IsSound}
-use Rattle.lazy_tree.specs.Stands.{eager_with}
+use Rattle.lazy_tree.specs.Eager.{eager_with}
 use Rattle.lazy_access.specs.declared.check.Found.{Found}
 use Rattle.lazy_access.specs.Requests.{violation_in}
 use Rattle.lazy_access.proofs.Accessing.{access-tie, quiet-after, node-there}

@@ -4,7 +4,7 @@ use Rattle.eager_tree.specs.Tree.{Tree}
 use Rattle.lazy_tree.specs.declared.tree.Node.{Node}
 use Rattle.lazy_tree.specs.Shape.{Shape}
 use Rattle.lazy_tree.specs.Skip.{with_free, IsSound}
-use Rattle.lazy_tree.specs.Stands.{eager_of, eager_with}
+use Rattle.lazy_tree.specs.Eager.{eager_of, eager_with}
 use Rattle.lazy_access.specs.declared.check.Found.{Found}
 use Rattle.lazy_access.specs.Requests.{violation_in}
 use Rattle.lazy_access.specs.Ends.{FindsEnd, NoEndDenial, IsEnded, HasEndRoom}

@@ -8,7 +8,7 @@ use Rattle.eager_tree.specs.Steps.{access}
 use Rattle.lazy_tree.specs.declared.tree.Node.{Node}
 use Rattle.lazy_tree.specs.Shape.{Shape}
 use Rattle.lazy_tree.specs.Skip.{node_at}
-use Rattle.lazy_tree.specs.Stands.{eager_of, eager_with}
+use Rattle.lazy_tree.specs.Eager.{eager_of, eager_with}
 use Rattle.lazy_access.specs.declared.check.Found.{Found}
 use Rattle.lazy_access.specs.declared.frees.Held.{Held}
 use Rattle.lazy_access.specs.Walk.{IsMet, Finds}

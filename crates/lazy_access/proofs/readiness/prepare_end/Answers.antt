@@ -2,7 +2,7 @@ use Rattle.std.proofs.Common.{◌≡◌, List, length, Result, Ok, Err, OnOk, sy
 use Rattle.lazy_tree.specs.declared.tree.Node.{Node}
 use Rattle.lazy_tree.specs.Shape.{Shape}
 use Rattle.lazy_tree.specs.Skip.{IsSound}
-use Rattle.lazy_tree.specs.Stands.{eager_of}
+use Rattle.lazy_tree.specs.Eager.{eager_of}
 use Rattle.lazy_access.specs.Ends.{HasEndRoom}
 use Rattle.lazy_access.specs.Ready.{IsReadyToEnd}
 use Rattle.lazy_access.proofs.Reserving.{eager-roomier, ready-by, sound-roomier}

@@ -8,7 +8,7 @@ use Rattle.eager_tree.specs.Steps.{access}
 use Rattle.lazy_tree.specs.declared.slot.Slot.{Slot}
 use Rattle.lazy_tree.specs.Shape.{Shape}
 use Rattle.lazy_tree.specs.Skip.{node_at, own_rank, IsSound, MayAdd, with_child}
-use Rattle.lazy_tree.specs.Stands.{eager_with}
+use Rattle.lazy_tree.specs.Eager.{eager_with}
 use Rattle.lazy_access.specs.Change.{IsLowered}
 use Rattle.lazy_access.specs.Requests.{local_in, IsChild}
 use Rattle.lazy_access.proofs.Accessing.{root-alone}
