@@ -16,6 +16,7 @@ use Rattle.ir_ast.specs.declared.program.Inst.{Inst}
 use Rattle.ir_ast.specs.declared.program.Named.{Named}
 use Rattle.ir_ast.specs.declared.program.Op.{Op}
 use Rattle.ir_ast.specs.declared.program.Op.TheVariants as op
+use Rattle.ir_ast.specs.declared.program.Program.{Program}
 use Rattle.ir_ast.specs.declared.program.TypedVal.{TypedVal}
 use Rattle.ir_ast.specs.declared.types.Attr.{Attr}
 use Rattle.ir_ast.specs.declared.types.Place.{Place}
@@ -26,8 +27,9 @@ use Rattle.ir_rules.specs.declared.rule.Rule.{Rule}
 use Rattle.perm_table.specs.declared.RetagKind.{RetagKind}
 use Rattle.thread_parts.specs.Parts.{part_ask, worked_part, make_by, retag_part, copy_by, call_part}
 use Rattle.source_sem.specs.Env.{Env}
-use Rattle.source_sem.specs.Joining.{Site, DoingStands, IsLost, FramesStand}
-use Rattle.source_sem.specs.Source.{Setting, Frame, Doing, Ready, Entering, Copying, Waiting, Retagging, Leaving, op_part, frames_ask, doing_ask, ready_ask, term_ask}
+use Rattle.source_sem.specs.Joining.{ThreadStands, Site, DoingStands, IsLost, FramesStand}
+use Rattle.source_sem.specs.Source.{Setting, Source, source_ask, Frame, Doing, Ready, Entering, Copying, Waiting, Retagging, Leaving, op_part, frames_ask, doing_ask, ready_ask, term_ask}
+use Rattle.source_sem.specs.Starting.{setting_of}
 use Rattle.source_sem.proofs.Asks.{BeginsNoStep, doing_asks, term_asks}
 use Rattle.source_sem.proofs.Events.{each_in}
 use Rattle.source_runs.specs.AcceptedHosts.{AcceptedProgramsAskTheTable}
@@ -129,3 +131,8 @@ module _ (x : Setting) (hosts : HostTable) (ok : IsAccepted x.program hosts) (na
 
 pub accepted_programs_ask : AcceptedProgramsAskTheTable
 accepted_programs_ask x hosts ok names s n first second stands is = subst (AsksTable hosts) is (frames_known x hosts ok names s.started s.frames s.over stands.frames)
+
+-- a program's own setting has the names of its table
+pub program_asks : (program : Program) (input : List ℕ) (hosts : HostTable) → IsAccepted program hosts
+    → (s : Source) (n first second : ℕ) → ThreadStands program s → source_ask (setting_of program input hosts) s ≡ ask.Host n first second → n < length hosts.entries
+program_asks program input hosts ok = accepted_programs_ask (setting_of program input hosts) hosts ok refl

@@ -109,7 +109,6 @@ PlainFits other = Unit {0}
 abbrev pub RegistersFit : Program → (ℕ → ℕ → Type 0) → Frame → Type 0
 RegistersFit p K f = (g : Function) × (slice_get p.functions f.function ≡ Some g) × EnvFits p K g f.env
 
--- what is written is bytes
 -- a started child runs its function
 abbrev pub Told : (ℕ → ℕ → Type 0) → Request → Plain → Type 0
 Told K (request.Spawn k) p = K k (number_in p)

@@ -1,5 +1,5 @@
 -- What a thread's steps count, and which children they start.
-use Rattle.std.proofs.Common.{◌≡◌, ℕ, suc, List, [], ◌∷◌, Bool, true, false, refl, sym, ap, subst, ◌∙◌, length}
+use Rattle.std.proofs.Common.{◌≡◌, ℕ, suc, ◌<◌, ◌≤◌, arith, List, [], ◌∷◌, Bool, true, false, refl, sym, ap, subst, ◌∙◌, length}
 use Rattle.std.specs.Prelude.{Option, Some, None}
 use Rattle.history.specs.declared.ask.Arg.{Arg}
 use Rattle.history.specs.declared.ask.Ask.{Ask}
@@ -19,6 +19,7 @@ use Rattle.ir_ast.specs.declared.program.Jump.TheVariants as jump
 use Rattle.ir_ast.specs.declared.program.Named.{Named}
 use Rattle.ir_ast.specs.declared.program.Param.{Param}
 use Rattle.ir_ast.specs.declared.types.Ty.{Ty}
+use Rattle.runs.specs.Machine.{MayGoOn}
 use Rattle.runs.specs.Parts.{Answers, IsOnNumber, child_of, spawned_by}
 use Rattle.thread_parts.specs.Copies.{Progress, untouched, copy_after, copy_done}
 use Rattle.thread_parts.specs.Fits.{ReplyFits, SpawnedChild}
@@ -27,7 +28,7 @@ use Rattle.thread_parts.specs.Parts.{Part, Step, Gives, Fails, Steps, Retags, Co
 use Rattle.thread_parts.specs.Words.{number_in}
 use Rattle.source_sem.specs.Children.{ChildLaw, with_child}
 use Rattle.source_sem.specs.Counting.{CountLaw}
-use Rattle.source_sem.specs.Source.{Setting, Source, Frame, Doing, Ready, Entering, Copying, Waiting, Retagging, Leaving, op_part, frames_ask, doing_ask, ready_ask, term_ask, frames_type, source_begins, counted, counted_if, frames_turn, ready_turn, part_turn, term_turn, return_to, frames_answer, doing_answer, ready_answer, part_answer, term_answer, leave, leave_on, returned_value, copy_on, copying_part, copying_answer, entering_answer, part_child, insts_child, frames_child}
+use Rattle.source_sem.specs.Source.{Setting, Source, source, source_answer, Frame, Doing, Ready, Entering, Copying, Waiting, Retagging, Leaving, op_part, frames_ask, doing_ask, ready_ask, term_ask, frames_type, source_begins, counted, counted_if, frames_turn, ready_turn, part_turn, term_turn, return_to, frames_answer, doing_answer, ready_answer, part_answer, term_answer, leave, leave_on, returned_value, copy_on, copying_part, copying_answer, entering_answer, part_child, insts_child, frames_child}
 use Rattle.source_sem.proofs.Asks.{BeginsNoStep, doing_asks, term_asks}
 
 -- the thread t after something that has begun no instruction; these are the children
@@ -262,3 +263,11 @@ spawns_start x = record {
   turn = λ s. (turns x (counted s) s.frames).children_are;
   after = λ s e h fits. gains x (counted_if (source_begins s) s) s.frames s.over (trap_of e.reply.plain) e (frames_type x s.frames) refl h fits ∙ ap (with_child (child_of e)) (count_keeps x (source_begins s) s);
 }
+
+-- a thread that may go on has counted no more than its limit after its next step
+counted_within : (b : Bool) (s : Source) (limit : ℕ) → (b ≡ true → s.count < limit) → s.count ≤ limit → (counted_if b s).count ≤ limit
+counted_within true s limit may within = let less = may refl in omega (arith, less)
+counted_within false s limit may within = within
+
+pub counts_within : (x : Setting) (s : Source) (r : Reply) (limit : ℕ) → MayGoOn (source x) limit s → s.count ≤ limit → (source_answer x s r).count ≤ limit
+counts_within x s r limit may within = subst (λ n. n ≤ limit) (sym ((instructions_count x).after s r)) (counted_within (source_begins s) s limit may within)
