@@ -12,15 +12,14 @@ use Rattle.source_sem.specs.Source as sem
 use Rattle.source_machine.specs.declared.part.Part.{Part}
 use Rattle.source_machine.specs.declared.part.Part.TheVariants as part
 use Rattle.source_machine.specs.declared.part.Step.TheVariants as step
-use Rattle.source_machine.specs.Codes.{rest_of}
-use Rattle.source_machine.specs.Doings.{half_in}
-use Rattle.source_machine.specs.Fits.{PartFits, PieceRoom, Needs, NeedsUnread}
+use Rattle.source_machine.specs.Positions.{rest_of}
+use Rattle.source_machine.specs.Fits.{PartFits, HasPartRoom, FitsPart}
 use Rattle.source_machine.specs.Parts.{part_in}
-use Rattle.source_machine.specs.Ready.{CopyRoom, part_at}
+use Rattle.source_machine.specs.Ready.{HasCopyRoom, part_at}
 use Rattle.source_machine.proofs.Going.{part_some}
 
 -- what a part needs, on both sides
-pub fits_in : (env : Env) (p : Part) (q : Plain) → Needs (Some (part_in env p)) q → PartFits p q
+pub fits_in : (env : Env) (p : Part) (q : Plain) → FitsPart (Some (part_in env p)) q → PartFits p q
 fits_in env (part.Gives v) q h = tt
 fits_in env (part.Fails e) q h = tt
 fits_in env (part.Steps (step.Makes n place)) q h = h
@@ -29,29 +28,24 @@ fits_in env (part.Steps (step.Prints v)) q h = tt
 fits_in env (part.Steps (step.Hosts n a b)) q h = tt
 fits_in env (part.Steps (step.Spawns k args)) q h = h
 fits_in env (part.Retags p kind n) q h = tt
-fits_in env (part.Copies d s n) q h = h
+fits_in env (part.Copies d s n) q h = tt
 fits_in env (part.Calls k args ty attr) q h = tt
 fits_in env (part.Joins c ty attr) q h = tt
 
-pub room_in : (env : Env) (p : Part) (room : ℕ) → CopyRoom (Some (part_in env p)) room → PieceRoom p room
-room_in env (part.Gives v) room h = tt
-room_in env (part.Fails e) room h = tt
-room_in env (part.Steps s) room h = tt
-room_in env (part.Retags p kind n) room h = tt
-room_in env (part.Copies d s n) room h = h
-room_in env (part.Calls k args ty attr) room h = tt
-room_in env (part.Joins c ty attr) room h = tt
+pub room_in : (env : Env) (p : Part) (piece : Option (List Byte)) → HasCopyRoom (Some (part_in env p)) piece → HasPartRoom p piece
+room_in env (part.Gives v) piece h = tt
+room_in env (part.Fails e) piece h = tt
+room_in env (part.Steps s) piece h = tt
+room_in env (part.Retags p kind n) piece h = tt
+room_in env (part.Copies d s n) piece h = h
+room_in env (part.Calls k args ty attr) piece h = tt
+room_in env (part.Joins c ty attr) piece h = tt
 
-pub part_fits : (x : sem.Setting) (f : sem.Frame) (depth : ℕ) (i : Inst) (p : Part) (q : Plain) → slice_get f.insts 0 ≡ Some i → part_in f.env p ≡ sem.op_part x f.function depth f.env i.op → Needs (part_at x f depth) q → PartFits p q
-part_fits x f depth i p q is e h = fits_in f.env p q (subst (λ (z : Option parts.Part). Needs z q) (sym (part_some x f depth i is) ∙ ap (λ (z : parts.Part). Some z) (sym e)) h)
+pub part_fits : (x : sem.Setting) (f : sem.Frame) (depth : ℕ) (i : Inst) (p : Part) (q : Plain) → slice_get f.insts 0 ≡ Some i → part_in f.env p ≡ sem.op_part x f.function depth f.env i.op → FitsPart (part_at x f depth) q → PartFits p q
+part_fits x f depth i p q is e h = fits_in f.env p q (subst (λ (z : Option parts.Part). FitsPart z q) (sym (part_some x f depth i is) ∙ ap (λ (z : parts.Part). Some z) (sym e)) h)
 
-pub part_room : (x : sem.Setting) (f : sem.Frame) (depth : ℕ) (i : Inst) (p : Part) (room : ℕ) → slice_get f.insts 0 ≡ Some i → part_in f.env p ≡ sem.op_part x f.function depth f.env i.op → CopyRoom (part_at x f depth) room → PieceRoom p room
-part_room x f depth i p room is e h = room_in f.env p room (subst (λ (z : Option parts.Part). CopyRoom z room) (sym (part_some x f depth i is) ∙ ap (λ (z : parts.Part). Some z) (sym e)) h)
-
-pub unread_fits : (x : sem.Setting) (f : sem.Frame) (depth : ℕ) (i : Inst) (p : Part) (q : Plain) (piece : List Byte) (read : Bool) → slice_get f.insts 0 ≡ Some i → part_in f.env p ≡ sem.op_part x f.function depth f.env i.op
-    → NeedsUnread (half_in piece read) (part_at x f depth) q → read ≡ false → PartFits p q
-unread_fits x f depth i p q piece true is e h r = absurd cc
-unread_fits x f depth i p q piece false is e h r = part_fits x f depth i p q is e h
+pub part_room : (x : sem.Setting) (f : sem.Frame) (depth : ℕ) (i : Inst) (p : Part) (piece : Option (List Byte)) → slice_get f.insts 0 ≡ Some i → part_in f.env p ≡ sem.op_part x f.function depth f.env i.op → HasCopyRoom (part_at x f depth) piece → HasPartRoom p piece
+part_room x f depth i p piece is e h = room_in f.env p piece (subst (λ (z : Option parts.Part). HasCopyRoom z piece) (sym (part_some x f depth i is) ∙ ap (λ (z : parts.Part). Some z) (sym e)) h)
 
 pub ready_answer_at : (x : sem.Setting) (t : sem.Source) (f : sem.Frame) (fs : List sem.Frame) (depth : ℕ) (i : Inst) (p : parts.Part) (r : Reply) → slice_get f.insts 0 ≡ Some i → suc (length fs) ≡ depth → p ≡ sem.op_part x f.function depth f.env i.op
     → sem.ready_answer x t f fs f.insts r ≡ sem.part_answer x t f fs (rest_of f.insts) i.dest p r
@@ -91,4 +85,4 @@ copying_answer_end x t f fs pr r is = by_insts f.insts is
     by_insts [] h = refl
     by_insts (j ∷ rest) h = absurd cc
 
-pub ruleset frame_steps = (part_fits, part_room, unread_fits)
+pub ruleset frame_steps = (part_fits, part_room)

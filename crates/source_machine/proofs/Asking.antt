@@ -7,7 +7,7 @@ use Rattle.ir_ast.specs.declared.program.Jump.{Jump}
 use Rattle.thread_parts.specs.Copies.{Progress}
 use Rattle.thread_parts.specs.Parts.{part_ask}
 use Rattle.source_sem.specs.Source.{Setting, Frame, op_part, ready_ask, term_ask, copying_ask, copying_by, nowhere}
-use Rattle.source_machine.specs.Codes.{jump_of}
+use Rattle.source_machine.specs.Positions.{jump_of}
 
 pub ready_some : (x : Setting) (f : Frame) (depth : ℕ) (is : List Inst) (i : Inst) → slice_get is 0 ≡ Some i → part_ask (op_part x f.function depth f.env i.op) ≡ ready_ask x f depth is
 ready_some x f depth [] i is = absurd cc

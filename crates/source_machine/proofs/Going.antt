@@ -3,6 +3,7 @@ use Rattle.std.proofs.Common.{◌≡◌, ℕ, zero, suc, ◌≤◌, List, [], �
 use Rattle.std.specs.Prelude.{slice_get}
 use Rattle.std.specs.Option.{option_copied}
 use Rattle.ir_ast.specs.declared.program.Goal.{Goal}
+use Rattle.history.specs.Pieces.{Byte}
 use Rattle.ir_ast.specs.declared.program.Inst.{Inst}
 use Rattle.ir_ast.specs.declared.program.Jump.{Jump}
 use Rattle.ir_ast.specs.declared.program.Jump.TheVariants as jump
@@ -10,11 +11,11 @@ use Rattle.ir_ast.specs.declared.program.Val.{Val}
 use Rattle.source_sem.specs.Env.{Env, operand}
 use Rattle.thread_parts.specs.Parts as parts
 use Rattle.source_sem.specs.Source as sem
-use Rattle.source_machine.specs.declared.ahead.Ahead.{Ahead}
+use Rattle.source_machine.specs.declared.ahead.Lookahead.{Lookahead}
 use Rattle.source_machine.specs.declared.frame.Frame.{Frame}
-use Rattle.source_machine.specs.Codes.{Stands, params_of, jump_of}
+use Rattle.source_machine.specs.Positions.{IsWithinLimit, params_of, jump_of}
 use Rattle.source_machine.specs.Frames.{frame_in}
-use Rattle.source_machine.specs.Ready.{part_by, part_at, goal_by, goal_at, PartReady, GoesTo, GoalReady, IsRoomy}
+use Rattle.source_machine.specs.Ready.{part_by, part_at, goal_by, goal_at, IsPartReady, IsGoalReady, IsJumpReady, IsRoomy}
 
 -- without instructions a frame stands at its terminator
 pub goal_at-none : (f : sem.Frame) (j : Jump) → slice_get f.insts 0 ≡ None → j ≡ f.term → goal_by f.env [] j ≡ goal_at f
@@ -41,8 +42,8 @@ goes_first env v a b e = ap (λ (z : Goal). Some z) (sym (chosen_more (operand e
 pub ruleset goal_steps = (goal_at-none, goes_second, goes_first)
 
 -- what an instruction does that isn't a call or a copy needs nothing
-pub ready_same : (x : sem.Setting) (p q : parts.Part) (room : ℕ) (callee : Option Frame) → p ≡ q → PartReady x (Some p) room callee → PartReady x (Some q) room callee
-ready_same x p q room callee e h = subst (λ (z : parts.Part). PartReady x (Some z) room callee) e h
+pub ready_same : (x : sem.Setting) (p q : parts.Part) (room : Option (List Byte)) (callee : Option Frame) → p ≡ q → IsPartReady x (Some p) room callee → IsPartReady x (Some q) room callee
+ready_same x p q room callee e h = subst (λ (z : parts.Part). IsPartReady x (Some z) room callee) e h
 
 pub ruleset ready_steps = (ready_same)
 
@@ -72,7 +73,7 @@ goal_none f i is = by_insts f.insts f.term is
     by_insts (k ∷ rest) jump.Unreachable h = refl
 
 -- more room
-pub goal_more : (x : sem.Setting) (f : sem.Frame) (room more : ℕ) (goal : Option Goal) (a : Ahead) → room ≤ more → GoalReady x f room goal a → GoalReady x f more goal a
+pub goal_more : (x : sem.Setting) (f : sem.Frame) (room more : ℕ) (goal : Option Goal) (a : Lookahead) → room ≤ more → IsJumpReady x f room goal a → IsJumpReady x f more goal a
 goal_more x f room more None a le h = tt
 goal_more x f room more (Some goal) a le h = let fits : length (params_of (option_copied a.block)) ≤ room = h.fits in record { enters = h.enters; fits = omega (arith, fits, le); stands = h.stands }
 

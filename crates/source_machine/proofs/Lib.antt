@@ -1,11 +1,9 @@
 pub mod Places
 pub mod Writes
-pub mod Roots
 pub mod Words
 pub mod Numbers
 pub mod Entries
-pub mod Standing
-pub mod Pieces
+pub mod Steps
 pub mod Binding
 pub mod Asking
 pub mod Calling

@@ -15,7 +15,7 @@ use Rattle.ir_ast.specs.declared.types.Attr.{Attr}
 use Rattle.ir_ast.proofs.Limits.{keeps_limits}
 use Rattle.ir_ast.specs.Numbers.{block_place, blocks_end, number_of_block, number_of_function, function_place, host_names, place}
 use Rattle.source_sem.specs.Source.{first_insts}
-use Rattle.source_machine.specs.Codes.{Stands}
+use Rattle.source_machine.specs.Positions.{IsWithinLimit}
 use Rattle.source_machine.specs.Texts.{function_numbers, program_end}
 use Rattle.source_machine.proofs.Places.{cut}
 
@@ -119,10 +119,10 @@ drop_all (x ∷ xs) (suc i) le = drop_all xs i (omega (arith, le))
 pub found_nowhere : (label : List ℕ) (blocks : List Block) (i n m : ℕ) → length blocks ≤ i → Seeks label n blocks m (drop i blocks) → Found label n blocks None m
 found_nowhere label blocks i n m le seeks = seeks None m (subst (λ (z : List Block). Found label m z None m) (sym (drop_all blocks i le)) (record { is_block = refl; is_number = refl }))
 
-pub stands_here : (n : ℕ) (b : Block) → n + block_instructions b ≤ most_instructions → Stands n (Some b)
+pub stands_here : (n : ℕ) (b : Block) → n + block_instructions b ≤ most_instructions → IsWithinLimit n (Some b)
 stands_here n b le = omega arith
 
-pub stands_end : (blocks : List Block) (i m e : ℕ) → blocks_end m (drop i blocks) ≡ e → e ≤ most_instructions → Stands m None
+pub stands_end : (blocks : List Block) (i m e : ℕ) → blocks_end m (drop i blocks) ≡ e → e ≤ most_instructions → IsWithinLimit m None
 stands_end blocks i m e h le = let grow : m ≤ blocks_end m (drop i blocks) = blocks_grow m (drop i blocks) in omega arith
 
 pub ruleset block_steps = (found_here, seeks_on, found_nowhere, stands_here, stands_end, block_room, block_passed)

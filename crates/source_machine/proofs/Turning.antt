@@ -2,6 +2,7 @@
 use Rattle.std.proofs.Common.{◌≡◌, ℕ, suc, ◌+◌, List, [], ◌∷◌, ◌++◌, length, Option, Some, None, refl, sym, ap, ◌∙◌, subst, arith}
 use Rattle.std.specs.Prelude.{slice_get, map, reverse}
 use Rattle.std.proofs.lemmas.List.{reverse-append}
+use Rattle.history.specs.Pieces.{Byte}
 use Rattle.ir_ast.specs.declared.program.Inst.{Inst}
 use Rattle.history.specs.declared.ask.Arg.{Arg}
 use Rattle.ir_ast.specs.declared.program.Named.{Named}
@@ -11,12 +12,12 @@ use Rattle.source_sem.specs.Env.{Env}
 use Rattle.thread_parts.specs.Parts as parts
 use Rattle.source_sem.specs.Source as sem
 use Rattle.source_machine.specs.declared.frame.Frame.{Frame}
-use Rattle.source_machine.specs.Codes.{rest_of}
+use Rattle.source_machine.specs.Positions.{rest_of}
 use Rattle.source_machine.specs.Frames.{frame_in}
 use Rattle.source_machine.specs.declared.part.Part.{Part}
 use Rattle.source_machine.specs.declared.part.Part.TheVariants as part
 use Rattle.source_machine.specs.Parts.{part_in}
-use Rattle.source_machine.specs.Ready.{part_at, PartReady}
+use Rattle.source_machine.specs.Ready.{part_at, IsPartReady}
 use Rattle.source_machine.proofs.Going.{part_some}
 use Rattle.source_machine.specs.Threads.{callers_in}
 use Rattle.source_machine.proofs.Calling.{callers_in-push}
@@ -68,9 +69,9 @@ idle_turn x t f fs rest dest env (part.Calls k args ty attr) h = absurd h
 idle_turn x t f fs rest dest env (part.Joins c ty attr) h = refl
 
 -- the frame of a call
-pub callee_ready : (x : sem.Setting) (f : sem.Frame) (depth : ℕ) (i : Inst) (room : ℕ) (callee : Option Frame) (g : Frame) (k : ℕ) (xs : List Arg) (ty : Option Ty) (attr : Option Attr)
-    → slice_get f.insts 0 ≡ Some i → parts.Calls k xs ty attr ≡ sem.op_part x f.function depth f.env i.op → callee ≡ Some g → PartReady x (part_at x f depth) room callee → frame_in g ≡ sem.new_frame x k xs
+pub callee_ready : (x : sem.Setting) (f : sem.Frame) (depth : ℕ) (i : Inst) (room : Option (List Byte)) (callee : Option Frame) (g : Frame) (k : ℕ) (xs : List Arg) (ty : Option Ty) (attr : Option Attr)
+    → slice_get f.insts 0 ≡ Some i → parts.Calls k xs ty attr ≡ sem.op_part x f.function depth f.env i.op → callee ≡ Some g → IsPartReady x (part_at x f depth) room callee → frame_in g ≡ sem.new_frame x k xs
 callee_ready x f depth i room callee g k xs ty attr is e got ready =
     let part : part_at x f depth ≡ Some (parts.Calls k xs ty attr) = sym (part_some x f depth i is) ∙ ap (λ (z : parts.Part). Some z) (sym e) in
-    let one : PartReady x (Some (parts.Calls k xs ty attr)) room callee = subst (λ (z : Option parts.Part). PartReady x z room callee) part ready in
-    subst (λ (z : Option Frame). PartReady x (Some (parts.Calls k xs ty attr)) room z) got one
+    let one : IsPartReady x (Some (parts.Calls k xs ty attr)) room callee = subst (λ (z : Option parts.Part). IsPartReady x z room callee) part ready in
+    subst (λ (z : Option Frame). IsPartReady x (Some (parts.Calls k xs ty attr)) room z) got one

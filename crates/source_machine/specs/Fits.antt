@@ -1,11 +1,10 @@
 -- What a part needs of its reply, and of room.
-use Rattle.std.specs.Prelude.{ℕ, ◌≤◌, List, length, Option, Some, None}
+use Rattle.std.specs.Prelude.{List, Option, Some, None}
 use Rattle.history.specs.declared.entry.Plain.{Plain}
 use Rattle.history.specs.declared.entry.Plain.TheVariants as plain
 use Rattle.history.specs.Pieces.{Byte}
 use Rattle.thread_parts.specs.Parts as sem
-use Rattle.thread_parts.specs.Copies.{copied_of}
-use Rattle.source_sem.specs.Source.{Doing, Ready, Copying}
+use Rattle.source_sem.specs.Source.{Doing, Ready}
 use Rattle.source_machine.specs.declared.part.Step.{Step}
 use Rattle.source_machine.specs.declared.part.Step.TheVariants as step
 use Rattle.source_machine.specs.declared.part.Part.{Part}
@@ -21,30 +20,27 @@ StepFits (step.Makes n place) p = IsNumber p
 StepFits (step.Spawns k args) p = IsNumber p
 StepFits other p = Unit {0}
 
--- a copied piece has at most 32 bytes
 abbrev pub PartFits : Part → Plain → Type 0
 PartFits (part.Steps s) p = StepFits s p
-PartFits (part.Copies d s n) p = length (copied_of p) ≤ 32
 PartFits other p = Unit {0}
 
+-- there is room for a piece
+abbrev pub HasPieceRoom : Option (List Byte) → Type 0
+HasPieceRoom None = ⊥
+HasPieceRoom (Some piece) = Unit {0}
+
 -- a copy has room for a piece
-abbrev pub PieceRoom : Part → ℕ → Type 0
-PieceRoom (part.Copies d s n) room = 32 ≤ room
-PieceRoom other room = Unit {0}
+abbrev pub HasPartRoom : Part → Option (List Byte) → Type 0
+HasPartRoom (part.Copies d s n) piece = HasPieceRoom piece
+HasPartRoom other piece = Unit {0}
 
 -- what an instruction needs of its reply
-abbrev pub Needs : Option sem.Part → Plain → Type 0
-Needs (Some (sem.Steps (sem.Makes n place))) p = IsNumber p
-Needs (Some (sem.Steps (sem.Spawns k xs))) p = IsNumber p
-Needs (Some (sem.Copies d s n)) p = length (copied_of p) ≤ 32
-Needs part p = Unit {0}
-
-abbrev pub NeedsUnread : Option (List Byte) → Option sem.Part → Plain → Type 0
-NeedsUnread None part p = Needs part p
-NeedsUnread (Some piece) part p = Unit {0}
+abbrev pub FitsPart : Option sem.Part → Plain → Type 0
+FitsPart (Some (sem.Steps (sem.Makes n place))) p = IsNumber p
+FitsPart (Some (sem.Steps (sem.Spawns k xs))) p = IsNumber p
+FitsPart part p = Unit {0}
 
 -- what a frame that does this needs of its reply
-abbrev pub DoingNeeds : Doing → Option sem.Part → Plain → Type 0
-DoingNeeds Ready part p = Needs part p
-DoingNeeds (Copying pr) part p = NeedsUnread pr.half part p
-DoingNeeds other part p = Unit {0}
+abbrev pub FitsDoing : Doing → Option sem.Part → Plain → Type 0
+FitsDoing Ready part p = FitsPart part p
+FitsDoing other part p = Unit {0}

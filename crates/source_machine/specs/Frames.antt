@@ -5,7 +5,7 @@ use Rattle.ir_ast.specs.declared.program.Param.{Param}
 use Rattle.thread_parts.specs.Copies.{Progress, copy_done}
 use Rattle.source_sem.specs.Source as sem
 use Rattle.source_machine.specs.declared.frame.Frame.{Frame}
-use Rattle.source_machine.specs.Codes.{insts_left, term_left, rest_of}
+use Rattle.source_machine.specs.Positions.{insts_left, term_left, rest_of}
 use Rattle.source_machine.specs.Doings.{doing_in}
 
 abbrev pub frame_in : Frame → sem.Frame
@@ -16,7 +16,7 @@ frame_in f = record {
   number = f.number;
   env = f.registers.env;
   owned = f.owned.owned;
-  doing = doing_in f.piece.items f.doing;
+  doing = doing_in f.piece f.doing;
 }
 
 -- a frame of which the first of these parameters is retagged

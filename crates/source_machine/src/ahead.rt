@@ -1,10 +1,10 @@
 //! What is looked up, and the memory that is taken, before a thread goes on.
-ghost use Rattle.std.specs.Prelude.{◌≡◌, None, Some, OnOk, length, slice_get, true, vec_capacity};
+ghost use Rattle.std.specs.Prelude.{◌≡◌, None, Some, OnOk, length, slice_get, true};
 ghost use Rattle.std.specs.Option.{option_copied};
 ghost use Rattle.source_sem.specs.Source as sem;
-ghost use Rattle.source_machine.specs.Codes.{Stands, params_of};
+ghost use Rattle.source_machine.specs.Positions.{IsWithinLimit, params_of};
 ghost use Rattle.source_machine.specs.Frames.{frame_in};
-ghost use Rattle.source_machine.specs.Ready.{GoalReady, IsRoomy, PartReady, goal_at};
+ghost use Rattle.source_machine.specs.Ready.{IsJumpReady, IsRoomy, IsPartReady, goal_at};
 
 use crate::bindings::fill;
 use crate::frame::Frame;
@@ -19,14 +19,14 @@ use std::alloc::Global;
 /// What is looked up before a thread goes on: for a jump the block to which it goes, the number of that block's first
 /// instruction and the values of its parameters; for a call the frame of the function that is called.
 #[derive(Drop)]
-pub struct Ahead<'p> {
+pub struct Lookahead<'p> {
     pub row: Vec<Arg>,
     pub block: Option<&'p Block>,
     pub number: u32,
     pub callee: Option<Frame<'p>>,
 }
 
-/// Where a frame goes that stands at no instruction, if it stands at a jump.
+/// Where a frame goes whose next instruction is its terminator, if that is a jump.
 #[tactic(auto, using(crate::proofs::Going::goal_steps))]
 fn goal_of<'p>(frame: &Frame<'p>) -> Option<&'p Goal>
     requires { slice_get (frame_in frame.now).insts 0 ≡ None }
@@ -50,10 +50,10 @@ fn look_up<'p>(
     text: &Text<'p>,
     frame: &Frame<'p>,
     goal: &Goal,
-    ahead: &mut Ahead<'p>,
+    ahead: &mut Lookahead<'p>,
 ) -> Result<(), NoMemory>
     ensures enters { OnOk result (sem.in_block (frame_in frame.now) (option_copied ahead.new.block) ahead.new.number ahead.new.row.items ≡ sem.goto text.now (frame_in frame.now) goal.now) }
-    ensures stands { OnOk result (Stands ahead.new.number (option_copied ahead.new.block)) }
+    ensures stands { OnOk result (IsWithinLimit ahead.new.number (option_copied ahead.new.block)) }
 {
     match text.function(frame.function) {
         Some(function) => {
@@ -83,14 +83,14 @@ fn param_count(block: Option<&Block>) -> usize
     }
 }
 
-/// Takes the memory for the jump at which a frame stands, if it stands at one.
+/// Takes the memory for the terminator of a frame, if it is a jump.
 fn prepare_jump<'p>(
     text: &Text<'p>,
     frame: &mut Frame<'p>,
-    ahead: &mut Ahead<'p>,
+    ahead: &mut Lookahead<'p>,
 ) -> Result<(), NoMemory>
     requires { slice_get (frame_in frame.old).insts 0 ≡ None }
-    ensures ready { OnOk result (GoalReady text.now (frame_in frame.old) frame.new.registers.room (goal_at (frame_in frame.old)) ahead.new) }
+    ensures ready { OnOk result (IsJumpReady text.now (frame_in frame.old) frame.new.registers.room (goal_at (frame_in frame.old)) ahead.new) }
     ensures frame { frame_in frame.new ≡ frame_in frame.old }
 {
     if let Some(goal) = goal_of(frame) {
@@ -100,7 +100,7 @@ fn prepare_jump<'p>(
     Ok(())
 }
 
-/// Takes the memory for the instruction at which a frame stands, as one of so many.
+/// Takes the memory for the next instruction of a frame, as one of so many frames.
 #[tactic(auto, using(crate::proofs::Going::ready_steps))]
 fn prepare_part<'p>(
     alloc: Global,
@@ -108,10 +108,10 @@ fn prepare_part<'p>(
     frame: &mut Frame<'p>,
     depth: usize,
     inst: &'p Inst,
-    ahead: &mut Ahead<'p>,
+    ahead: &mut Lookahead<'p>,
 ) -> Result<(), NoMemory>
     requires { text.now.tracked ≡ true }
-    ensures ready { OnOk result (PartReady text.now (Some (sem.op_part text.now (frame_in frame.old).function depth (frame_in frame.old).env inst.now.op)) (vec_capacity frame.new.piece) ahead.new.callee) }
+    ensures ready { OnOk result (IsPartReady text.now (Some (sem.op_part text.now (frame_in frame.old).function depth (frame_in frame.old).env inst.now.op)) frame.new.piece ahead.new.callee) }
     ensures frame { frame_in frame.new ≡ frame_in frame.old }
 {
     match frame.part(text, depth, inst) {
@@ -119,13 +119,13 @@ fn prepare_part<'p>(
             fill(&mut ahead.row, &frame.registers, args)?;
             ahead.callee = Some(Frame::new(alloc, text, function, &ahead.row)?);
         }
-        Part::Copies(..) => frame.piece.reserve(32)?,
+        Part::Copies(..) => frame.reserve_piece(alloc)?,
         Part::Gives(_) | Part::Fails(_) | Part::Steps(_) | Part::Retags(..) | Part::Joins(..) => {}
     }
     Ok(())
 }
 
-/// Takes the memory that a frame, as one of so many, needs to go on.
+/// Takes the memory that a frame, as one of so many frames, needs to go on.
 ///
 /// # Errors
 ///
@@ -136,7 +136,7 @@ pub fn prepare_frame<'p>(
     text: &Text<'p>,
     frame: &mut Frame<'p>,
     depth: usize,
-    ahead: &mut Ahead<'p>,
+    ahead: &mut Lookahead<'p>,
 ) -> Result<(), NoMemory>
     requires { text.now.tracked ≡ true }
     ensures ready { OnOk result (IsRoomy text.now depth frame.new ahead.new) }

@@ -4,10 +4,11 @@ ghost use Rattle.std.specs.Option.{option_copied};
 ghost use Rattle.source_sem.specs.Env as env;
 ghost use Rattle.thread_parts.specs.Owned as owned_parts;
 ghost use Rattle.thread_parts.specs.Parts as parts;
+ghost use Rattle.thread_parts.specs.Rooms.{HasRoom};
 ghost use Rattle.source_sem.specs.Source as sem;
-ghost use Rattle.source_machine.specs.Codes.{rest_of};
+ghost use Rattle.source_machine.specs.Positions.{rest_of};
 ghost use Rattle.source_machine.specs.Doings.{half_in, pending};
-ghost use Rattle.source_machine.specs.Fits.{PartFits, PieceRoom, StepFits};
+ghost use Rattle.source_machine.specs.Fits.{PartFits, HasPartRoom, StepFits};
 ghost use Rattle.source_machine.specs.Frames.{frame_in};
 ghost use Rattle.source_machine.specs.Parts.{part_in, step_in};
 ghost use Rattle.source_machine.specs.declared.doing.Doing.TheVariants as doing;
@@ -19,6 +20,7 @@ use crate::replies::{access_result, keep, name_in, number_in};
 use bsan_ids::AllocNo;
 use history::{Arg, Reply};
 use ir_ast::{Inst, Named, Place};
+use thread_parts::StackAllocation;
 
 /// The register of an instruction's value, if it has one.
 pub fn dest_of(inst: &Inst) -> Option<&Named>
@@ -32,7 +34,7 @@ pub fn dest_of(inst: &Inst) -> Option<&Named>
 
 /// The frame's instruction was a step: what the frame owns after it, and the children that the thread has started.
 fn own<'p>(frame: &mut Frame<'p>, started: &mut Vec<u32>, step: Step, reply: &Reply)
-    requires owned { 1 ≤ frame.old.owned.room }
+    requires owned { HasRoom frame.old.owned }
     requires started { vec_len started.old < vec_capacity started.old }
     requires fits { StepFits step reply.now.plain }
     ensures frame { frame_in frame.new ≡ record (frame_in frame.old) { owned = owned_parts.step_owned (step_in (frame_in frame.old).env step.entry) reply.now (frame_in frame.old).owned } }
@@ -42,11 +44,14 @@ fn own<'p>(frame: &mut Frame<'p>, started: &mut Vec<u32>, step: Step, reply: &Re
     match step {
         Step::Makes(_, Place::Stack) => {
             let number = AllocNo(name_in(&reply.plain));
-            frame.owned.add_stack(number, reply.carried);
+            frame.owned.push_stack(StackAllocation {
+                number,
+                prov: reply.carried,
+            });
         }
         Step::Spawns(..) => {
             let child = name_in(&reply.plain);
-            frame.owned.add_child(child);
+            frame.owned.push_child(child);
             started.push_reserved(child);
         }
         Step::Makes(_, Place::Heap) | Step::Accesses(..) | Step::Prints(_) | Step::Hosts(..) => {}
@@ -78,12 +83,12 @@ pub fn part_answer<'p>(
     reply: &Reply,
 )
     requires registers { 1 ≤ frame.old.registers.room }
-    requires owned { 1 ≤ frame.old.owned.room }
+    requires owned { HasRoom frame.old.owned }
     requires started { vec_len started.old < vec_capacity started.old }
     requires more { IsSome (slice_get (frame_in frame.old).insts 0) }
     requires begun { pending frame.old.doing ≡ 0 }
     requires fits { PartFits part reply.now.plain }
-    requires piece { PieceRoom part (vec_capacity frame.old.piece) }
+    requires piece { HasPartRoom part frame.old.piece }
     ensures { (x : sem.Setting) (t : sem.Source) (fs : List sem.Frame) → x.tracked ≡ true → t.frames ≡ frame_in frame.old ∷ fs → t.started ≡ reverse started.old.items
         → sem.part_answer x t (frame_in frame.old) fs (rest_of (frame_in frame.old).insts) inst.now.dest (part_in (frame_in frame.old).env part.entry) reply.now ≡ record t { frames = frame_in frame.new ∷ fs; started = reverse started.new.items } }
 {
@@ -116,8 +121,8 @@ pub fn part_answer<'p>(
     }
 }
 
-/// A later piece of the copy at which the frame stands is answered: so many were copied, and the next one was read or
-/// not.
+/// A later part of the copy that is the next instruction is answered: so many pieces were copied, and the next one was
+/// read or not.
 pub fn copying_answer<'p>(
     frame: &mut Frame<'p>,
     part: Part<'p>,
@@ -128,10 +133,9 @@ pub fn copying_answer<'p>(
     requires doing { frame.old.doing ≡ doing.Copying pieces read }
     requires registers { 1 ≤ frame.old.registers.room }
     requires more { IsSome (slice_get (frame_in frame.old).insts 0) }
-    requires fits { read ≡ false → PartFits part reply.now.plain }
-    requires piece { read ≡ false → PieceRoom part (vec_capacity frame.old.piece) }
+    requires piece { HasPartRoom part frame.old.piece }
     ensures { (t : sem.Source) (fs : List sem.Frame) → t.frames ≡ frame_in frame.old ∷ fs
-        → sem.copying_part t (frame_in frame.old) fs (rest_of (frame_in frame.old).insts) (part_in (frame_in frame.old).env part.entry) (record { pieces = pieces; half = half_in frame.old.piece.items read }) reply.now ≡ record t { frames = frame_in frame.new ∷ fs } }
+        → sem.copying_part t (frame_in frame.old) fs (rest_of (frame_in frame.old).insts) (part_in (frame_in frame.old).env part.entry) (record { pieces = pieces; half = half_in frame.old.piece read }) reply.now ≡ record t { frames = frame_in frame.new ∷ fs } }
 {
     if let Part::Copies(_, _, len) = part {
         if read {

@@ -1,15 +1,18 @@
 //! What a thread asks by the parts of its instructions.
-ghost use Rattle.std.specs.Prelude.{◌≡◌, ◌≤◌, ◌*◌, ◌-◌, min, length, IfOk};
+ghost use Rattle.std.specs.Prelude.{◌≡◌, ◌*◌, ◌-◌, ℕ, Some, None, min, IfOk, OnErr};
+ghost use Rattle.history.specs.declared.ask.Arg.{Arg};
 ghost use Rattle.source_sem.specs.Env as env;
 ghost use Rattle.thread_parts.specs.Words as words;
+ghost use Rattle.thread_parts.specs.Asks.{AsksAllocation};
 ghost use Rattle.thread_parts.specs.Copies as copies;
 ghost use Rattle.thread_parts.specs.Parts as parts;
+ghost use Rattle.source_machine.specs.Doings.{bytes_in};
 ghost use Rattle.source_machine.specs.Parts.{access_in, part_in, step_in};
 
 use crate::operands::{cut, width_of};
 use crate::part::{Access, Part, Step};
-use bsan_ids::{Frag, NoMemory, Prov, ThreadNo, parts};
-use history::{Arg, Ask, MachineEnd, Piece, Request};
+use bsan_ids::{NoMemory, Prov, ThreadNo, parts};
+use history::{Arg, Ask, MachineEnd, Piece, PieceBuffer, Request};
 use ir_ast::Ty;
 use perm_table::{Guard, RetagKind};
 use std::alloc::Global;
@@ -80,7 +83,7 @@ fn step_ask(step: Step) -> Ask
     }
 }
 
-/// What a retag of so many bytes behind a pointer asks.
+/// What a retag of so many bytes from a pointer on asks.
 pub fn retag_ask(pointer: Arg, kind: RetagKind, guard: Guard, len: u32) -> Ask
     ensures { result ≡ parts.retag_ask pointer kind guard len }
 {
@@ -109,9 +112,9 @@ fn piece_len(len: u64, pieces: u64) -> u8
     len.saturating_sub(pieces.saturating_mul(32)).min(32) as u8
 }
 
-/// What a copy asks for its next piece.
-pub fn copy_out_ask(to: Arg, from: Arg, len: u64, pieces: u64) -> Ask
-    ensures { result ≡ copies.copy_ask_by to from len pieces None }
+/// What a copy from a pointer asks for its next piece, of so many bytes in all, where so many pieces were copied.
+pub fn copy_out_ask(from: Arg, len: u64, pieces: u64) -> Ask
+    ensures { (to : Arg) → result ≡ copies.copy_ask_by to from len pieces None }
 {
     let (alloc, at) = parts(piece_at(from.value, pieces));
     let request = Request::CopyOut {
@@ -122,32 +125,31 @@ pub fn copy_out_ask(to: Arg, from: Arg, len: u64, pieces: u64) -> Ask
     Ask::At { alloc, request }
 }
 
-/// The bytes of a piece that was read.
-#[tactic(auto, using(crate::proofs::Pieces::piece_steps))]
-fn piece_of(alloc: Global, bytes: &[(u8, Option<Frag>)]) -> Result<Piece, NoMemory>
-    requires { length bytes.now ≤ 32 }
-    ensures { IfOk result (λ piece. piece ≡ bytes.now) }
+/// A copy of the piece that is kept: one of no byte where there is none.
+fn kept_piece(alloc: Global, kept: &Option<PieceBuffer>) -> Result<Piece, NoMemory>
+    ensures { IfOk result (λ piece. piece ≡ bytes_in kept.now) }
 {
-    let mut piece = Piece::new(alloc);
-    for (byte, frag) in bytes {
-        piece.push(*byte, *frag)?;
+    match kept {
+        Some(buffer) => buffer.to_piece(),
+        None => Ok(Piece::new(alloc)),
     }
-    Ok(piece)
 }
 
-/// What a copy asks for a piece that was read.
+/// What a copy to a pointer asks for the piece that was read, where so many were copied before it.
+///
+/// # Errors
+///
+/// `NoMemory`: out of memory for the piece.
 pub fn copy_in_ask(
     alloc: Global,
     to: Arg,
-    from: Arg,
-    len: u64,
     pieces: u64,
-    bytes: &[(u8, Option<Frag>)],
+    kept: &Option<PieceBuffer>,
 ) -> Result<Ask, NoMemory>
-    requires { length bytes.now ≤ 32 }
-    ensures { IfOk result (λ ask. ask ≡ copies.copy_ask_by to from len pieces (Some bytes.now)) }
+    ensures asks { (from : Arg) (len : ℕ) → IfOk result (λ ask. ask ≡ copies.copy_ask_by to from len pieces (Some (bytes_in kept.now))) }
+    ensures refused { (from : Arg) (len : ℕ) → OnErr result (AsksAllocation (copies.copy_ask_by to from len pieces (Some (bytes_in kept.now)))) }
 {
-    let piece = piece_of(alloc, bytes)?;
+    let piece = kept_piece(alloc, kept)?;
     let (alloc, at) = parts(piece_at(to.value, pieces));
     let request = Request::CopyIn {
         at,
@@ -166,7 +168,7 @@ pub fn part_ask(part: Part) -> Ask
         Part::Fails(trap) => Ask::Ended(MachineEnd::Trapped(trap)),
         Part::Steps(step) => step_ask(step),
         Part::Retags(pointer, kind, len) => retag_ask(pointer, kind, Guard::Free, len),
-        Part::Copies(to, from, len) => copy_out_ask(to, from, len, 0),
+        Part::Copies(_, from, len) => copy_out_ask(from, len, 0),
         Part::Joins(child, ..) => Ask::Join {
             child: ThreadNo(child),
         },

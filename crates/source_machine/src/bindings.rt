@@ -33,7 +33,7 @@ fn handed(row: &[Arg], at: usize, param: &Param) -> Arg
     }
 }
 
-/// Gives the parameters their values, all at once: by place, those of the row.
+/// Gives the parameters their values, all at once, by their places.
 #[tactic(auto, using(crate::proofs::Binding::bind_steps))]
 pub fn bind<'p>(registers: &mut Registers<'p>, params: &'p [Param], row: &[Arg])
     requires { length params.now ≤ registers.old.room }
@@ -45,7 +45,7 @@ pub fn bind<'p>(registers: &mut Registers<'p>, params: &'p [Param], row: &[Arg])
     }
 }
 
-/// Puts what arguments hand over into a row, in place of what is there.
+/// Puts the values of arguments into a list, in place of what is there.
 ///
 /// # Errors
 ///

@@ -53,7 +53,7 @@ pub fn leave_on<'p>(mut frame: Frame<'p>, callers: &mut Vec<Frame<'p>>, value: A
     ensures { (t : sem.Source) → sem.leave_on true t (frame_in frame.entry) (callers_in callers.old.items) value ≡ flow_in t result (callers_in callers.new.items) t.started }
 {
     frame.owned.release();
-    match frame.owned.next() {
+    match frame.owned.first() {
         Some(_) => {
             frame.doing = Doing::Leaving(value);
             Flow::On(frame)

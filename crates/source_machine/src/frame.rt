@@ -1,26 +1,26 @@
 //! A frame.
 ghost use Rattle.std.specs.Prelude.{◌+◌, ◌≤◌, ◌<◌, ◌^◌, length};
 ghost use Rattle.ir_ast.specs.Lines.{most_instructions};
-ghost use Rattle.source_machine.specs.Codes.{insts_left};
+ghost use Rattle.source_machine.specs.Positions.{insts_left};
 ghost use Rattle.source_machine.specs.Doings.{pending, awaited, copied_bytes};
 
 use crate::bindings::{bind, put_some};
 use crate::doing::{Doing, entry, from_step};
 use crate::items::item;
 use crate::operations::part_of;
-use crate::owned::Owned;
 use crate::part::Part;
 use crate::registers::Registers;
-use crate::results::{protect, result_step, taken, taken_arg};
+use crate::results::{result_step, taken, taken_arg};
 use crate::text::Text;
-use bsan_ids::{Frag, NoMemory};
-use history::{Arg, Reply};
+use bsan_ids::NoMemory;
+use history::{Arg, PieceBuffer, Reply};
 use ir_ast::{Attr, Block, Function, Inst, Jump, Named, Param, Ty};
 use std::alloc::Global;
+use thread_parts::Owned;
 
-/// A frame: its function, the block in which it stands and the place of its instruction there, the number of that
+/// A frame: its function, its block and the place of its next instruction there, the number of that
 /// instruction, its registers, what it must give up, which part it does next, and the piece of a copy that was read
-/// last. Without a block it stands nowhere.
+/// last. Without a block it has no instruction, and its terminator is `unreachable`.
 #[derive(Drop)]
 pub struct Frame<'p> {
     pub function: u32,
@@ -30,30 +30,31 @@ pub struct Frame<'p> {
     pub registers: Registers<'p>,
     pub owned: Owned,
     pub doing: Doing<'p>,
-    pub piece: Vec<(u8, Option<Frag>)>,
+    pub piece: Option<PieceBuffer>,
     pub ghost numbered: { number + length (insts_left block at) + pending doing ≤ most_instructions },
     pub ghost placed: { at + length (insts_left block at) ≤ most_instructions },
     pub ghost awaiting: { awaited doing ≤ registers.room },
     pub ghost copying: { copied_bytes doing < 2 ^ 64 },
-    pub ghost short: { length piece.items ≤ 32 },
 }
 
 impl<'p> Frame<'p> {
-    ghost use Rattle.std.specs.Prelude.{◌≡◌, List, IfOk, IsSome, slice_get, true};
+    ghost use Rattle.std.specs.Prelude.{◌≡◌, List, IfOk, IsSome, OnOk, slice_get, true};
     ghost use Rattle.std.specs.Option.{option_copied};
     ghost use Rattle.history.specs.declared.ask.Arg.{Arg};
     ghost use Rattle.source_sem.specs.Source as sem;
     ghost use Rattle.source_sem.specs.Source.{op_part};
     ghost use Rattle.source_sem.specs.Env as env;
     ghost use Rattle.source_machine.specs.Parts.{part_in};
-    ghost use Rattle.source_machine.specs.Codes.{Stands, jump_of, params_of, rest_of};
+    ghost use Rattle.source_machine.specs.Positions.{IsWithinLimit, jump_of, params_of, rest_of};
     ghost use Rattle.source_sem.specs.Source.{to_retag};
     ghost use Rattle.source_machine.specs.declared.doing.Doing.TheVariants as doing;
     ghost use Rattle.source_machine.specs.Doings.{half_in};
+    ghost use Rattle.thread_parts.specs.Rooms.{HasRoom};
+    ghost use Rattle.source_machine.specs.Fits.{HasPieceRoom};
     ghost use Rattle.source_machine.specs.Frames.{copied_in, entered_in, frame_in};
 
-    /// The instruction at which the frame stands, if it is one of its block's.
-    #[tactic(auto, using(crate::proofs::Standing::inst_steps))]
+    /// The next instruction, unless that is the block's terminator.
+    #[tactic(auto, using(crate::proofs::Steps::inst_steps))]
     pub fn inst(&self) -> Option<&'p Inst>
         ensures { option_copied result ≡ slice_get (frame_in self.now).insts 0 }
     {
@@ -63,7 +64,7 @@ impl<'p> Frame<'p> {
         }
     }
 
-    /// Where the frame's block goes on, if it stands in one.
+    /// The jump of the block's terminator, if there is a block.
     pub fn jump(&self) -> Option<&'p Jump>
         ensures { jump_of (option_copied result) ≡ (frame_in self.now).term }
     {
@@ -81,7 +82,7 @@ impl<'p> Frame<'p> {
         part_of(text, self.function, depth, &self.registers, &inst.op)
     }
 
-    /// A frame that stands nowhere.
+    /// A frame without a block.
     fn nowhere(alloc: Global, number: u32) -> Frame<'p>
         ensures { (x : sem.Setting) (row : List Arg) → frame_in result ≡ sem.frame_of x number None row }
     {
@@ -93,12 +94,12 @@ impl<'p> Frame<'p> {
             registers: Registers::new(alloc),
             owned: Owned::new(alloc),
             doing: Doing::Ready,
-            piece: Vec::new(alloc),
+            piece: None,
         }
     }
 
-    /// A frame of a function, of this number, which is handed a row.
-    #[tactic(auto, using(crate::proofs::Standing::begin_steps))]
+    /// A frame of a function, of this number, with these arguments.
+    #[tactic(auto, using(crate::proofs::Steps::begin_steps))]
     fn begin(
         alloc: Global,
         text: &Text<'p>,
@@ -122,11 +123,11 @@ impl<'p> Frame<'p> {
             registers,
             owned: Owned::new(alloc),
             doing: entry(params),
-            piece: Vec::new(alloc),
+            piece: None,
         })
     }
 
-    /// A frame of the function of this number, which is handed a row.
+    /// A frame of the function of this number, with these arguments.
     ///
     /// # Errors
     ///
@@ -146,8 +147,8 @@ impl<'p> Frame<'p> {
         }
     }
 
-    /// Goes behind the instruction at which it stands, whose value it puts into a register.
-    #[tactic(auto, using(crate::proofs::Standing::step_steps))]
+    /// Goes past the next instruction, whose value it puts into a register.
+    #[tactic(auto, using(crate::proofs::Steps::step_steps))]
     pub fn advance(&mut self, dest: Option<&'p Named>, value: Option<Arg>)
         requires room { 1 ≤ self.old.registers.room }
         requires more { IsSome (slice_get (frame_in self.old).insts 0) }
@@ -159,8 +160,8 @@ impl<'p> Frame<'p> {
         self.doing = Doing::Ready;
     }
 
-    /// Waits for the result of the call at which it stands.
-    #[tactic(auto, using(crate::proofs::Standing::step_steps))]
+    /// Waits for the result of the call that is its next instruction.
+    #[tactic(auto, using(crate::proofs::Steps::step_steps))]
     pub fn wait(&mut self, dest: Option<&'p Named>, ty: Option<Ty>, attr: Option<Attr>)
         requires room { 1 ≤ self.old.registers.room }
         requires more { IsSome (slice_get (frame_in self.old).insts 0) }
@@ -170,11 +171,11 @@ impl<'p> Frame<'p> {
         self.doing = Doing::Waiting(dest, ty, attr);
     }
 
-    /// Goes to the beginning of a block, whose parameters get the values of a row; without a block it stands nowhere.
-    #[tactic(auto, using(crate::proofs::Standing::begin_steps))]
+    /// Goes to the beginning of a block, whose parameters get these values; without a block it has no instruction.
+    #[tactic(auto, using(crate::proofs::Steps::begin_steps))]
     pub fn enter(&mut self, block: Option<&'p Block>, number: u32, row: &[Arg])
         requires room { length (params_of (option_copied block)) ≤ self.old.registers.room }
-        requires stands { Stands number (option_copied block) }
+        requires stands { IsWithinLimit number (option_copied block) }
         ensures { frame_in self.new ≡ sem.in_block (frame_in self.old) (option_copied block.entry) number row.now }
     {
         if let Some(block) = block {
@@ -186,9 +187,9 @@ impl<'p> Frame<'p> {
         self.doing = Doing::Ready;
     }
 
-    /// The instruction at which it stands, or the one that waits, has its result: it goes into a register, and is
+    /// The next instruction, or the one that waits, has its result: it goes into a register, and is
     /// retagged there where there is such a step.
-    #[tactic(auto, using(crate::proofs::Standing::step_steps))]
+    #[tactic(auto, using(crate::proofs::Steps::step_steps))]
     fn finish(&mut self, dest: Option<&'p Named>, ty: Option<Ty>, step: Option<Attr>, value: Arg)
         requires room { 1 ≤ self.old.registers.room }
         requires counted { self.old.number + length (frame_in self.old).insts + 1 ≤ most_instructions }
@@ -223,8 +224,8 @@ impl<'p> Frame<'p> {
         }
     }
 
-    /// The join at which it stands has its result.
-    #[tactic(auto, using(crate::proofs::Standing::step_steps))]
+    /// The join that is its next instruction has its result.
+    #[tactic(auto, using(crate::proofs::Steps::step_steps))]
     pub fn join(
         &mut self,
         child: u32,
@@ -243,8 +244,24 @@ impl<'p> Frame<'p> {
         self.finish(dest, ty, result_step(ty, attr), value);
     }
 
-    /// The result that it has in hand is retagged: its pointer has this provenance.
-    #[tactic(auto, using(crate::proofs::Standing::step_steps))]
+    /// Makes room for a piece of a copy.
+    ///
+    /// # Errors
+    ///
+    /// `NoMemory`: out of memory. The frame stays as it was.
+    pub fn reserve_piece(&mut self, alloc: Global) -> Result<(), NoMemory>
+        ensures room { OnOk result (HasPieceRoom self.new.piece) }
+        ensures frame { frame_in self.new ≡ frame_in self.old }
+        ensures registers { self.new.registers ≡ self.old.registers }
+    {
+        if self.piece.is_none() {
+            self.piece = Some(PieceBuffer::new(alloc)?);
+        }
+        Ok(())
+    }
+
+    /// The result of its instruction is retagged: the pointer has the reply's provenance.
+    #[tactic(auto, using(crate::proofs::Steps::step_steps))]
     pub fn retag(&mut self, dest: Option<&'p Named>, value: Arg, attr: Attr, reply: &Reply)
         requires room { 1 ≤ self.old.registers.room }
         requires doing { self.old.doing ≡ doing.Retagging dest value attr }
@@ -262,7 +279,7 @@ impl<'p> Frame<'p> {
     /// The first of these parameters that has a step is retagged.
     pub fn enter_param(&mut self, params: &'p [Param], reply: &Reply)
         requires room { 1 ≤ self.old.registers.room }
-        requires owned { 1 ≤ self.old.owned.room }
+        requires owned { HasRoom self.old.owned }
         requires begun { pending self.old.doing ≡ 0 }
         ensures { frame_in self.new ≡ entered_in (frame_in self.old) (to_retag true params.now) reply.now }
     {
@@ -273,18 +290,18 @@ impl<'p> Frame<'p> {
                 prov: reply.carried,
             };
             self.registers.set(name, pointer);
-            protect(&mut self.owned, reply);
+            self.owned.protect(&reply.plain, reply.carried);
             self.doing = entry(rest);
         }
     }
 
     /// A copy of so many bytes has come so far.
-    #[tactic(auto, using(crate::proofs::Standing::step_steps))]
+    #[tactic(auto, using(crate::proofs::Steps::step_steps))]
     pub fn copy_on(&mut self, len: u64, pieces: u64, read: bool)
         requires room { 1 ≤ self.old.registers.room }
         requires more { IsSome (slice_get (frame_in self.old).insts 0) }
         requires begun { pending self.old.doing ≡ 0 }
-        ensures { frame_in self.new ≡ copied_in (frame_in self.old) len (record { pieces = pieces; half = half_in self.old.piece.items read }) }
+        ensures { frame_in self.new ≡ copied_in (frame_in self.old) len (record { pieces = pieces; half = half_in self.old.piece read }) }
     {
         if len <= pieces.saturating_mul(32) {
             self.advance(None, None);

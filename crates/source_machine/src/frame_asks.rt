@@ -1,6 +1,7 @@
 //! What a frame asks.
-ghost use Rattle.std.specs.Prelude.{◌≡◌, IfOk, slice_get, true};
+ghost use Rattle.std.specs.Prelude.{◌≡◌, IfOk, OnErr, slice_get, true};
 ghost use Rattle.ir_ast.specs.Attributes as attributes;
+ghost use Rattle.thread_parts.specs.Asks.{AsksAllocation};
 ghost use Rattle.source_sem.specs.Source as sem;
 ghost use Rattle.source_sem.specs.Source.{to_retag};
 ghost use Rattle.source_machine.specs.Doings.{half_in};
@@ -18,7 +19,7 @@ use ir_ast::{Jump, Param};
 use perm_table::{Guard, RetagKind};
 use std::alloc::Global;
 
-/// What a thread asks that stands nowhere.
+/// What a thread asks that has no instruction to do.
 fn nowhere() -> Ask
     ensures { result ≡ sem.nowhere }
 {
@@ -42,7 +43,7 @@ fn term_ask(frame: &Frame) -> Ask
 {
     match frame.jump() {
         Some(Jump::Br(_) | Jump::CondBr { .. }) => Ask::Turn,
-        Some(Jump::Ret { .. }) => match frame.owned.next() {
+        Some(Jump::Ret { .. }) => match frame.owned.first() {
             Some(ask) => ask,
             None => Ask::Turn,
         },
@@ -50,7 +51,7 @@ fn term_ask(frame: &Frame) -> Ask
     }
 }
 
-/// What a frame asks that is ready for an instruction, as one of so many.
+/// What a frame asks that is ready for an instruction, as one of so many frames.
 #[tactic(auto, using(crate::proofs::Asking::ready_steps))]
 fn ready_ask(text: &Text, frame: &Frame, depth: usize) -> Ask
     requires { text.now.tracked ≡ true }
@@ -89,7 +90,8 @@ fn copying_ask(
     read: bool,
 ) -> Result<Ask, NoMemory>
     requires { text.now.tracked ≡ true }
-    ensures { IfOk result (λ ask. ask ≡ sem.copying_ask text.now (frame_in frame.now) depth (frame_in frame.now).insts (record { pieces = pieces; half = half_in frame.now.piece.items read })) }
+    ensures asks { IfOk result (λ ask. ask ≡ sem.copying_ask text.now (frame_in frame.now) depth (frame_in frame.now).insts (record { pieces = pieces; half = half_in frame.now.piece read })) }
+    ensures refused { OnErr result (AsksAllocation (sem.copying_ask text.now (frame_in frame.now) depth (frame_in frame.now).insts (record { pieces = pieces; half = half_in frame.now.piece read }))) }
 {
     let Some(inst) = frame.inst() else {
         return Ok(nowhere());
@@ -97,9 +99,9 @@ fn copying_ask(
     match frame.part(text, depth, inst) {
         Part::Copies(to, from, len) => {
             if read {
-                copy_in_ask(alloc, to, from, len, pieces, &frame.piece)
+                copy_in_ask(alloc, to, pieces, &frame.piece)
             } else {
-                Ok(copy_out_ask(to, from, len, pieces))
+                Ok(copy_out_ask(from, len, pieces))
             }
         }
         Part::Gives(_)
@@ -111,14 +113,15 @@ fn copying_ask(
     }
 }
 
-/// What a frame asks, as one of so many.
+/// What a frame asks, as one of so many frames.
 ///
 /// # Errors
 ///
 /// `NoMemory`: out of memory.
 pub fn frame_ask(alloc: Global, text: &Text, frame: &Frame, depth: usize) -> Result<Ask, NoMemory>
     requires { text.now.tracked ≡ true }
-    ensures { IfOk result (λ ask. ask ≡ sem.doing_ask text.now (frame_in frame.now) depth (frame_in frame.now).doing) }
+    ensures asks { IfOk result (λ ask. ask ≡ sem.doing_ask text.now (frame_in frame.now) depth (frame_in frame.now).doing) }
+    ensures refused { OnErr result (AsksAllocation (sem.doing_ask text.now (frame_in frame.now) depth (frame_in frame.now).doing)) }
 {
     match frame.doing {
         Doing::Ready => Ok(ready_ask(text, frame, depth)),
@@ -128,7 +131,7 @@ pub fn frame_ask(alloc: Global, text: &Text, frame: &Frame, depth: usize) -> Res
         Doing::Retagging(_, value, attr) => {
             Ok(retag_ask(value, attr.kind, Guard::Free, attr.size))
         }
-        Doing::Leaving(_) => match frame.owned.next() {
+        Doing::Leaving(_) => match frame.owned.first() {
             Some(ask) => Ok(ask),
             None => Ok(nowhere()),
         },

@@ -2,17 +2,18 @@
 ghost use Rattle.std.specs.Prelude.{◌≡◌, true, false, IfOk, OnOk, OnErr};
 ghost use Rattle.runs.specs.Parts.{Answers};
 ghost use Rattle.runs.specs.Threads.{AsksSpawn};
+ghost use Rattle.thread_parts.specs.Asks.{AsksAllocation};
 ghost use Rattle.source_sem.specs.Starting.{setting_of};
 ghost use Rattle.source_sem.specs.Source.{frames_type, source_answer, source_ask, source_begins, source_child, source_fits, source_site, source_start, source_turn};
 
-use crate::ahead::Ahead;
+use crate::ahead::Lookahead;
 use crate::frame::Frame;
 use crate::text::Text;
 use crate::tops::{
     count_if, is_ready, join_type, prepare_top, reply_flow, settle, spawned, top_ask,
 };
 use crate::turns::frame_turn;
-use bsan_ids::NoMemory;
+use bsan_ids::{Copied, NoMemory};
 use history::{Arg, Ask, Entry, MachineEnd, Trap};
 use ir_ast::Ty;
 use ir_rules::Verified;
@@ -28,7 +29,7 @@ pub struct SourceMachine<'p> {
     text: Text<'p>,
     top: Option<Frame<'p>>,
     callers: Vec<Frame<'p>>,
-    ahead: Ahead<'p>,
+    ahead: Lookahead<'p>,
     over: MachineEnd,
     last: u32,
     count: u64,
@@ -54,7 +55,7 @@ impl<'p> Model for SourceMachine<'p> {
     ghost invariant = { λ m. IsKept m.text m.top m.callers m.ahead m.started m.count m.prepared };
 }
 
-/// A thread that begins in a function, of this number, which is handed a row.
+/// A thread that begins in the function of this number, with these arguments.
 fn begin<'p>(
     alloc: Global,
     text: Text<'p>,
@@ -69,7 +70,7 @@ fn begin<'p>(
         text,
         top: Some(top),
         callers: Vec::new(alloc),
-        ahead: Ahead {
+        ahead: Lookahead {
             row: Vec::new(alloc),
             block: None,
             number: 0,
@@ -107,9 +108,10 @@ impl<'p> SourceMachine<'p> {
     ///
     /// # Errors
     ///
-    /// `NoMemory`: out of memory.
+    /// `NoMemory`: out of memory for a piece that a copy writes. It comes only where the thread asks an allocation.
     pub fn ask(&self) -> Result<Ask, NoMemory>
-        ensures { IfOk result (λ a. a ≡ source_ask self.now.setting self.now.thread) }
+        ensures asks { IfOk result (λ a. a ≡ source_ask self.now.setting self.now.thread) }
+        ensures refused { OnErr result (AsksAllocation (source_ask self.now.setting self.now.thread)) }
     {
         let alloc = *self.callers.allocator();
         top_ask(
@@ -198,7 +200,7 @@ impl<'p> SourceMachine<'p> {
         begin(alloc, self.text.copy()?, function, &row)
     }
 
-    /// The type that the join names at which the thread stands, if it stands at one: what a fitting reply must be of.
+    /// The type that the join names which the thread asks, if it asks one: a fitting reply has a value of this type.
     pub fn join_type(&self) -> Option<Ty>
         ensures { result ≡ frames_type self.now.setting self.now.thread.frames }
     {

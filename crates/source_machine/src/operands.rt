@@ -129,7 +129,7 @@ pub fn converted(op: CastOp, from: Width, to: Width, value: Arg) -> Arg
     plain(cast(op, from, to, cut(from, value.value)))
 }
 
-/// The byte of the input at a place, and 256 behind its end.
+/// The byte of the input at a place, and 256 after its end.
 pub fn input_at(input: &[u8], place: Arg) -> Arg
     ensures { result ≡ parts.input_arg input.now place }
 {

@@ -1,10 +1,11 @@
 //! What instructions do.
-ghost use Rattle.std.specs.Prelude.{◌≡◌, nat_lt, true};
+ghost use Rattle.std.specs.Prelude.{◌≡◌, ℕ, Some, nat_lt, true};
 ghost use Rattle.source_sem.specs.Env as env;
 ghost use Rattle.thread_parts.specs.Parts as parts;
 ghost use Rattle.ir_ast.specs.Attributes.{attr_of_call};
 ghost use Rattle.ir_ast.specs.Numbers.{function_place};
-ghost use Rattle.source_sem.specs.Source.{op_part};
+ghost use Rattle.source_sem.specs.Source.{Setting, op_part};
+ghost use Rattle.source_machine.specs.Families.{IsCalling, IsComputing, IsMemoryOp};
 ghost use Rattle.source_machine.specs.Parts.{access_in, part_in};
 
 use crate::operands::{
@@ -86,45 +87,21 @@ fn call_part<'p>(
     }
 }
 
-/// What an operation of the function of this number does, as one of so many frames.
-pub fn part_of<'p>(
-    text: &Text,
-    function: u32,
-    depth: usize,
-    registers: &Registers,
-    op: &'p Op,
-) -> Part<'p>
-    requires { text.now.tracked ≡ true }
-    ensures { part_in registers.now.env result ≡ op_part text.now function depth registers.now.env op.now }
+/// The value that an operation gives which computes one.
+fn value_of(text: &Text, registers: &Registers, op: &Op) -> Arg
+    requires { IsComputing op.now }
+    ensures { (function depth : ℕ) → parts.Gives (Some result) ≡ op_part text.now function depth registers.now.env op.now }
 {
     match op {
-        Op::Const { width, value } => Part::Gives(Some(plain(cut(*width, *value)))),
-        Op::Null => Part::Gives(Some(BLANK)),
-        Op::Make { place, size } => make_part(text.version(), *place, operand(registers, size)),
-        Op::Gep { ptr, add } => {
-            let pointer = registers.get(ptr.name.as_slice());
-            Part::Gives(Some(moved(pointer, operand(registers, add))))
+        Op::Const { width, value } => plain(cut(*width, *value)),
+        Op::Gep { ptr, add } => moved(registers.get(ptr.name.as_slice()), operand(registers, add)),
+        Op::Compare { cond, ty, a, b } => {
+            compared(*cond, *ty, operand(registers, a), operand(registers, b))
         }
-        Op::Load { ty, ptr } => access_part(registers, ptr, Access::Loads(*ty)),
-        Op::Store { ty, val, ptr } => {
-            access_part(registers, ptr, Access::Stores(*ty, operand(registers, val)))
-        }
-        Op::Retag { kind, ptr, size } => {
-            retag_part(registers.get(ptr.name.as_slice()), *kind, *size)
-        }
-        Op::Binary { op, width, a, b } => {
-            binary_part(*op, *width, operand(registers, a), operand(registers, b))
-        }
-        Op::Compare { cond, ty, a, b } => Part::Gives(Some(compared(
-            *cond,
-            *ty,
-            operand(registers, a),
-            operand(registers, b),
-        ))),
         Op::Select { ty, cond, a, b } => {
             let cond = operand(registers, cond).value;
             let value = chosen(cond, operand(registers, a), operand(registers, b));
-            Part::Gives(Some(cut_at(*ty, value)))
+            cut_at(*ty, value)
         }
         Op::Cast {
             op,
@@ -132,12 +109,26 @@ pub fn part_of<'p>(
             to,
             val,
             ..
-        } => { Part::Gives(Some(converted(*op, *from, *to, operand(registers, val)))) }
-        Op::PtrToInt { ptr } => {
-            Part::Gives(Some(plain(registers.get(ptr.name.as_slice()).value)))
+        } => converted(*op, *from, *to, operand(registers, val)),
+        Op::PtrToInt { ptr } => plain(registers.get(ptr.name.as_slice()).value),
+        Op::Input { index } => input_at(text.input(), operand(registers, index)),
+        _ => BLANK,
+    }
+}
+
+/// What an operation on an allocation does.
+fn memory_part<'p>(version: u8, registers: &Registers, op: &'p Op) -> Part<'p>
+    requires { IsMemoryOp op.now }
+    ensures { (x : Setting) (function depth : ℕ) → x.tracked ≡ true → x.program.version ≡ version → part_in registers.now.env result ≡ op_part x function depth registers.now.env op.now }
+{
+    match op {
+        Op::Make { place, size } => make_part(version, *place, operand(registers, size)),
+        Op::Load { ty, ptr } => access_part(registers, ptr, Access::Loads(*ty)),
+        Op::Store { ty, val, ptr } => {
+            access_part(registers, ptr, Access::Stores(*ty, operand(registers, val)))
         }
-        Op::Input { index } => {
-            Part::Gives(Some(input_at(text.input(), operand(registers, index))))
+        Op::Retag { kind, ptr, size } => {
+            retag_part(registers.get(ptr.name.as_slice()), *kind, *size)
         }
         Op::Modify {
             op,
@@ -164,14 +155,28 @@ pub fn part_of<'p>(
             copy_part(to, from, operand(registers, len))
         }
         Op::Free { ptr } => access_part(registers, ptr, Access::Frees),
-        Op::Print { width, val } => {
-            Part::Steps(Step::Prints(cut(*width, operand(registers, val).value)))
-        }
+        _ => unreachable!(),
+    }
+}
+
+/// What a call, a spawn, a join or an operation of the host does, in the function of this number, as one of so many
+/// frames.
+fn calling_part<'p>(
+    text: &Text,
+    function: u32,
+    depth: usize,
+    registers: &Registers,
+    op: &'p Op,
+) -> Part<'p>
+    requires { IsCalling op.now }
+    ensures { part_in registers.now.env result ≡ op_part text.now function depth registers.now.env op.now }
+{
+    match op {
         Op::Call {
             result,
             function,
             args,
-        } => { call_part(text, depth, *result, function, args.as_slice()) }
+        } => call_part(text, depth, *result, function, args.as_slice()),
         Op::Host { host, args, .. } => {
             let number = text.host_number(host.name.as_slice());
             let first = nth_word(registers, args.as_slice(), 0);
@@ -186,6 +191,47 @@ pub fn part_of<'p>(
             let name = handle.name.as_slice();
             let child = (registers.get(name).value % 0x1_0000_0000) as u32;
             Part::Joins(child, *result, text.handle_attr(function, name))
+        }
+        _ => unreachable!(),
+    }
+}
+
+/// What an operation of the function of this number does, as one of so many frames.
+pub fn part_of<'p>(
+    text: &Text,
+    function: u32,
+    depth: usize,
+    registers: &Registers,
+    op: &'p Op,
+) -> Part<'p>
+    requires { text.now.tracked ≡ true }
+    ensures { part_in registers.now.env result ≡ op_part text.now function depth registers.now.env op.now }
+{
+    match op {
+        Op::Const { .. }
+        | Op::Null
+        | Op::Gep { .. }
+        | Op::Compare { .. }
+        | Op::Select { .. }
+        | Op::Cast { .. }
+        | Op::PtrToInt { .. }
+        | Op::Input { .. } => Part::Gives(Some(value_of(text, registers, op))),
+        Op::Binary { op, width, a, b } => {
+            binary_part(*op, *width, operand(registers, a), operand(registers, b))
+        }
+        Op::Print { width, val } => {
+            Part::Steps(Step::Prints(cut(*width, operand(registers, val).value)))
+        }
+        Op::Make { .. }
+        | Op::Load { .. }
+        | Op::Store { .. }
+        | Op::Retag { .. }
+        | Op::Modify { .. }
+        | Op::CmpXchg { .. }
+        | Op::Copy { .. }
+        | Op::Free { .. } => memory_part(text.version(), registers, op),
+        Op::Call { .. } | Op::Host { .. } | Op::Spawn { .. } | Op::Join { .. } => {
+            calling_part(text, function, depth, registers, op)
         }
     }
 }

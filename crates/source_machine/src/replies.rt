@@ -1,15 +1,15 @@
 //! What replies give.
-ghost use Rattle.std.specs.Prelude.{◌≡◌, ◌≤◌, [], length, vec_capacity};
+ghost use Rattle.std.specs.Prelude.{◌≡◌};
 ghost use Rattle.thread_parts.specs.Copies as copies;
 ghost use Rattle.thread_parts.specs.Parts as parts;
 ghost use Rattle.thread_parts.specs.Words as words;
 ghost use Rattle.source_machine.specs.Parts.{access_in};
-ghost use Rattle.source_machine.specs.Fits.{IsNumber};
+ghost use Rattle.source_machine.specs.Doings.{bytes_in};
+ghost use Rattle.source_machine.specs.Fits.{HasPieceRoom, IsNumber};
 
 use crate::operands::{at_type, plain};
 use crate::part::Access;
-use bsan_ids::Frag;
-use history::{Arg, Piece, Plain, Reply};
+use history::{Arg, PieceBuffer, Plain, Reply};
 
 /// The number in a reply, and 0 where there is none.
 pub fn number_in(reply: &Plain) -> u64
@@ -54,26 +54,13 @@ pub fn access_result(access: Access, reply: &Reply) -> Option<Arg>
     }
 }
 
-/// Puts the bytes of a piece into a list of none, where they have room.
-#[tactic(auto, using(crate::proofs::Pieces::piece_steps))]
-fn put_bytes(bytes: &mut Vec<(u8, Option<Frag>)>, piece: &Piece)
-    requires none { bytes.old.items ≡ [] }
-    requires room { length piece.now ≤ vec_capacity bytes.old }
-    ensures items { bytes.new.items ≡ piece.now }
-    ensures capacity { vec_capacity bytes.new ≡ vec_capacity bytes.old }
+/// Keeps the bytes that were copied out in place of what is there, where there is room for a piece. It takes no memory.
+pub fn keep(kept: &mut Option<PieceBuffer>, reply: &Plain)
+    requires { HasPieceRoom kept.old }
+    ensures { bytes_in kept.new ≡ copies.copied_of reply.now }
 {
-    for at in 0..piece.len() {
-        bytes.push_reserved(piece.get(at));
-    }
-}
-
-/// Keeps the bytes that were copied out in place of what is there.
-pub fn keep(bytes: &mut Vec<(u8, Option<Frag>)>, reply: &Plain)
-    requires { length (copies.copied_of reply.now) ≤ vec_capacity bytes.old }
-    ensures { bytes.new.items ≡ copies.copied_of reply.now }
-{
-    bytes.clear();
-    if let Plain::Copied(piece) = reply {
-        put_bytes(bytes, piece);
+    match (reply, kept.as_mut()) {
+        (Plain::Copied(piece), Some(buffer)) => buffer.assign(piece),
+        _ => *kept = None,
     }
 }

@@ -1,12 +1,10 @@
-//! Results of calls and joins, and protectors.
-ghost use Rattle.std.specs.Prelude.{◌≡◌, ◌≤◌, true};
+//! Results of calls and joins.
+ghost use Rattle.std.specs.Prelude.{◌≡◌, true};
 ghost use Rattle.source_sem.specs.Source as sem;
-ghost use Rattle.thread_parts.specs.Owned as owned_parts;
 
 use crate::operands::at_type;
-use crate::owned::Owned;
 use crate::registers::BLANK;
-use history::{Arg, Plain, Reply};
+use history::Arg;
 use ir_ast::{Attr, Ty};
 
 /// The retag that a result of this type and attribute has, if it has one.
@@ -36,15 +34,5 @@ pub fn taken_arg(ty: Option<Ty>, value: Arg) -> Arg
     match ty {
         Some(ty) => at_type(ty, value),
         None => BLANK,
-    }
-}
-
-/// Adds the protector of a retag that added a node.
-pub fn protect(owned: &mut Owned, reply: &Reply)
-    requires { 1 ≤ owned.old.room }
-    ensures { owned.new.owned ≡ owned_parts.protect reply.now.plain reply.now.carried owned.old.owned }
-{
-    if let (Plain::Retagged { added: true }, Some(prov)) = (&reply.plain, reply.carried) {
-        owned.add_protector(prov);
     }
 }

@@ -9,11 +9,11 @@ ghost use Rattle.source_sem.specs.Starting.{setting_of};
 ghost use Rattle.ir_ast.specs.Numbers as numbers;
 ghost use Rattle.ir_ast.specs.Numbers.{block_place, function_place, host_names, number_of_block, number_of_function, place};
 ghost use Rattle.source_sem.specs.Source.{handle_attr};
-ghost use Rattle.source_machine.specs.Codes.{Stands};
+ghost use Rattle.source_machine.specs.Positions.{IsWithinLimit};
 ghost use Rattle.source_machine.specs.Texts.{function_numbers, has_param, is_dest, program_end};
 
 use crate::items::item;
-use bsan_ids::NoMemory;
+use bsan_ids::{Copied, NoMemory};
 use ir_ast::{Attr, Block, Function, HostEntry, Inst, Op, Param};
 use ir_rules::Verified;
 use std::alloc::Global;
@@ -42,7 +42,7 @@ impl<'p> Model for Text<'p> {
     ghost invariant = { λ t. t.firsts.items ≡ function_numbers 0 t.program.now.program.functions };
 }
 
-/// The number behind a block's last instruction, its terminator.
+/// The number after that of a block's last instruction, its terminator.
 fn block_end(first: u32, block: &Block) -> u32
     requires { first + block_instructions block.now ≤ most_instructions }
     ensures { result ≡ first + block_instructions block.now }
@@ -50,7 +50,7 @@ fn block_end(first: u32, block: &Block) -> u32
     first + block.insts.len() as u32 + 1
 }
 
-/// The number behind the last instruction of blocks.
+/// The number after that of the last instruction of these blocks.
 #[tactic(auto, using(crate::proofs::Numbers::end_steps))]
 fn blocks_end(first: u32, blocks: &[Block]) -> u32
     requires { numbers.blocks_end first blocks.now ≤ most_instructions }
@@ -92,7 +92,7 @@ pub fn find_block<'p>(blocks: &'p [Block], first: u32, label: &[u8]) -> (Option<
     requires { numbers.blocks_end first blocks.now ≤ most_instructions }
     ensures block { option_copied result.0 ≡ slice_get blocks.now (block_place blocks.now label.now) }
     ensures number { result.1 ≡ number_of_block first blocks.now (block_place blocks.now label.now) }
-    ensures stands { Stands result.1 (option_copied result.0) }
+    ensures stands { IsWithinLimit result.1 (option_copied result.0) }
 {
     let mut number = first;
     for block in blocks {
@@ -156,6 +156,18 @@ fn defining<'a>(insts: &'a [Inst], name: &[u8]) -> Option<&'a Inst>
     insts.iter().find(|inst| defines(inst, name))
 }
 
+/// The numbers are copied, and the program and the input are shared.
+impl<'p> Copied for Text<'p> {
+    fn copy(&self) -> Result<Text<'p>, NoMemory> {
+        let alloc = *self.firsts.allocator();
+        Ok(Text {
+            program: self.program,
+            input: self.input,
+            firsts: Vec::from_slice(alloc, &self.firsts)?,
+        })
+    }
+}
+
 impl<'p> Text<'p> {
     /// The text of a program with an input.
     ///
@@ -171,22 +183,6 @@ impl<'p> Text<'p> {
             program,
             input,
             firsts,
-        })
-    }
-
-    /// The same text once more.
-    ///
-    /// # Errors
-    ///
-    /// `NoMemory`: out of memory.
-    pub fn copy(&self) -> Result<Text<'p>, NoMemory>
-        ensures { IfOk result (λ text. text ≡ self.now) }
-    {
-        let alloc = *self.firsts.allocator();
-        Ok(Text {
-            program: self.program,
-            input: self.input,
-            firsts: Vec::from_slice(alloc, &self.firsts)?,
         })
     }
 

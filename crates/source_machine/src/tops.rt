@@ -1,19 +1,21 @@
 //! The newest frame of a thread.
-ghost use Rattle.std.specs.Prelude.{◌≡◌, ◌+◌, ◌^◌, ◌≤◌, ◌<◌, ◌∷◌, ℕ, List, None, IfOk, OnOk, length, reverse, suc, true, vec_capacity, vec_len};
+ghost use Rattle.std.specs.Prelude.{◌≡◌, ◌+◌, ◌^◌, ◌≤◌, ◌<◌, ◌∷◌, ℕ, List, None, IfOk, OnErr, OnOk, length, reverse, suc, true, vec_capacity, vec_len};
 ghost use Rattle.history.specs.declared.ask.MachineEnd.{MachineEnd};
 ghost use Rattle.history.specs.Replies.{trap_of};
 ghost use Rattle.runs.specs.Threads.{AsksSpawn};
+ghost use Rattle.thread_parts.specs.Asks.{AsksAllocation};
+ghost use Rattle.thread_parts.specs.Rooms.{HasRoom};
 ghost use Rattle.source_sem.specs.Env.{Env};
 ghost use Rattle.source_sem.specs.Source as sem;
 ghost use Rattle.source_machine.specs.Parts.{part_in};
 ghost use Rattle.source_machine.specs.Doings.{half_in};
-ghost use Rattle.source_machine.specs.Fits.{DoingNeeds, NeedsUnread};
+ghost use Rattle.source_machine.specs.Fits.{FitsDoing};
 ghost use Rattle.source_machine.specs.declared.doing.Doing.TheVariants as doing;
 ghost use Rattle.source_machine.specs.Frames.{frame_in};
-ghost use Rattle.source_machine.specs.Ready.{CopyRoom, IsTopRoomy, part_at};
+ghost use Rattle.source_machine.specs.Ready.{HasCopyRoom, IsTopRoomy, part_at};
 ghost use Rattle.source_machine.specs.Threads.{callers_in, flow_in, frames_above};
 
-use crate::ahead::{Ahead, prepare_frame};
+use crate::ahead::{Lookahead, prepare_frame};
 use crate::answers::{copying_answer, part_answer};
 use crate::bindings::fill;
 use crate::doing::Doing;
@@ -40,7 +42,8 @@ pub fn top_ask(
     over: MachineEnd,
 ) -> Result<Ask, NoMemory>
     requires { text.now.tracked ≡ true }
-    ensures { IfOk result (λ a. (fs : List sem.Frame) → suc (length fs) ≡ depth → a ≡ sem.frames_ask text.now (frames_above top.now fs) over) }
+    ensures asks { IfOk result (λ a. (fs : List sem.Frame) → suc (length fs) ≡ depth → a ≡ sem.frames_ask text.now (frames_above top.now fs) over) }
+    ensures refused { OnErr result ((fs : List sem.Frame) → suc (length fs) ≡ depth → AsksAllocation (sem.frames_ask text.now (frames_above top.now fs) over)) }
 {
     match top {
         Some(frame) => frame_ask(alloc, text, frame, depth),
@@ -58,7 +61,7 @@ pub fn prepare_top<'p>(
     text: &Text<'p>,
     top: &mut Option<Frame<'p>>,
     depth: usize,
-    ahead: &mut Ahead<'p>,
+    ahead: &mut Lookahead<'p>,
 ) -> Result<(), NoMemory>
     requires { text.now.tracked ≡ true }
     ensures ready { OnOk result (IsTopRoomy text.now depth top.new ahead.new) }
@@ -131,7 +134,7 @@ fn trap_in(reply: &Plain) -> Option<Trap>
     }
 }
 
-/// The frame that stands at its terminator goes on with a reply.
+/// The frame whose next instruction is its terminator goes on with a reply.
 fn term_answer<'p>(frame: Frame<'p>, callers: &mut Vec<Frame<'p>>) -> Flow<'p>
     ensures { (t : sem.Source) → t.frames ≡ frame_in frame.entry ∷ callers_in callers.old.items
         → sem.term_answer true t (frame_in frame.entry) (callers_in callers.old.items) (frame_in frame.entry).term ≡ flow_in t result (callers_in callers.new.items) t.started }
@@ -158,10 +161,9 @@ fn piece_answer<'p>(
     requires tracked { text.now.tracked ≡ true }
     requires doing { frame.old.doing ≡ doing.Copying pieces read }
     requires registers { 1 ≤ frame.old.registers.room }
-    requires piece { CopyRoom (part_at text.now (frame_in frame.old) depth) (vec_capacity frame.old.piece) }
-    requires fits { NeedsUnread (half_in frame.old.piece.items read) (part_at text.now (frame_in frame.old) depth) reply.now.plain }
+    requires piece { HasCopyRoom (part_at text.now (frame_in frame.old) depth) frame.old.piece }
     ensures { (t : sem.Source) (fs : List sem.Frame) → t.frames ≡ frame_in frame.old ∷ fs → suc (length fs) ≡ depth
-        → sem.copying_answer text.now t (frame_in frame.old) fs (frame_in frame.old).insts (record { pieces = pieces; half = half_in frame.old.piece.items read }) reply.now ≡ record t { frames = frame_in frame.new ∷ fs } }
+        → sem.copying_answer text.now t (frame_in frame.old) fs (frame_in frame.old).insts (record { pieces = pieces; half = half_in frame.old.piece read }) reply.now ≡ record t { frames = frame_in frame.new ∷ fs } }
 {
     match frame.inst() {
         Some(inst) => {
@@ -183,10 +185,10 @@ fn frame_answer<'p>(
 ) -> Flow<'p>
     requires tracked { text.now.tracked ≡ true }
     requires registers { 1 ≤ frame.registers.room }
-    requires owned { 1 ≤ frame.owned.room }
+    requires owned { HasRoom frame.owned }
     requires started { vec_len started.old < vec_capacity started.old }
-    requires piece { CopyRoom (part_at text.now (frame_in frame) (vec_len callers.old + 1)) (vec_capacity frame.piece) }
-    requires fits { DoingNeeds (frame_in frame).doing (part_at text.now (frame_in frame) (vec_len callers.old + 1)) reply.now.plain }
+    requires piece { HasCopyRoom (part_at text.now (frame_in frame) (vec_len callers.old + 1)) frame.piece }
+    requires fits { FitsDoing (frame_in frame).doing (part_at text.now (frame_in frame) (vec_len callers.old + 1)) reply.now.plain }
     ensures { (t : sem.Source) → t.frames ≡ frame_in frame.entry ∷ callers_in callers.old.items → t.started ≡ reverse started.old.items
         → sem.doing_answer text.now t (frame_in frame.entry) (callers_in callers.old.items) (frame_in frame.entry).doing reply.now ≡ flow_in t result (callers_in callers.new.items) (reverse started.new.items) }
 {
@@ -227,10 +229,10 @@ pub fn reply_flow<'p>(
 ) -> Flow<'p>
     requires tracked { text.now.tracked ≡ true }
     requires registers { 1 ≤ frame.registers.room }
-    requires owned { 1 ≤ frame.owned.room }
+    requires owned { HasRoom frame.owned }
     requires started { vec_len started.old < vec_capacity started.old }
-    requires piece { CopyRoom (part_at text.now (frame_in frame) (vec_len callers.old + 1)) (vec_capacity frame.piece) }
-    requires fits { trap_of reply.now.plain ≡ None → DoingNeeds (frame_in frame).doing (part_at text.now (frame_in frame) (vec_len callers.old + 1)) reply.now.plain }
+    requires piece { HasCopyRoom (part_at text.now (frame_in frame) (vec_len callers.old + 1)) frame.piece }
+    requires fits { trap_of reply.now.plain ≡ None → FitsDoing (frame_in frame).doing (part_at text.now (frame_in frame) (vec_len callers.old + 1)) reply.now.plain }
     ensures { (t : sem.Source) → t.frames ≡ frame_in frame.entry ∷ callers_in callers.old.items → t.started ≡ reverse started.old.items
         → sem.frames_answer text.now t (frame_in frame.entry ∷ callers_in callers.old.items) (trap_of reply.now.plain) reply.now ≡ flow_in t result (callers_in callers.new.items) (reverse started.new.items) }
 {
@@ -240,7 +242,8 @@ pub fn reply_flow<'p>(
     }
 }
 
-/// The function that a spawn starts, at which the newest frame stands as one of so many, and its arguments.
+/// The function that is started by the spawn that is the next instruction of the newest frame, as one of so many, and
+/// its arguments.
 ///
 /// # Errors
 ///
@@ -267,7 +270,7 @@ pub fn spawned(
     Ok((function, row))
 }
 
-/// The type that the join names at which the newest frame stands, as one of so many, if it stands at one.
+/// The type that the join names which is the next instruction of the newest frame, as one of so many, if it is one.
 #[tactic(auto, using(crate::proofs::Typing::type_steps))]
 pub fn join_type(text: &Text, top: &Option<Frame>, depth: usize) -> Option<Ty>
     requires { text.now.tracked ≡ true }

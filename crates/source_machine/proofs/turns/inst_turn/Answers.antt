@@ -6,7 +6,7 @@ use Rattle.thread_parts.specs.Parts as parts
 use Rattle.source_sem.specs.Source as sem
 use Rattle.source_machine.specs.declared.part.Part.{Part}
 use Rattle.source_machine.specs.declared.part.Part.TheVariants as part
-use Rattle.source_machine.specs.Codes.{rest_of}
+use Rattle.source_machine.specs.Positions.{rest_of}
 use Rattle.source_machine.specs.Frames.{frame_in}
 use Rattle.source_machine.specs.Parts.{part_in}
 use Rattle.source_machine.specs.Threads.{callers_in}

@@ -9,7 +9,7 @@ use Rattle.ir_ast.specs.declared.program.Inst.{Inst}
 use Rattle.ir_ast.specs.Numbers.{blocks_end}
 use Rattle.ir_ast.specs.Lines.{block_instructions}
 use Rattle.source_sem.specs.Source.{first_insts, first_term}
-use Rattle.source_machine.specs.Codes.{insts_left, term_left, rest_of, Stands}
+use Rattle.source_machine.specs.Positions.{insts_left, term_left, rest_of, IsWithinLimit}
 
 pub slice_get-drop : (is : List Inst) (at : ℕ) → slice_get is at ≡ slice_get (drop at is) 0
 slice_get-drop [] zero = refl
@@ -33,11 +33,11 @@ blocks_grow : (n : ℕ) (bs : List Block) → n ≤ blocks_end n bs
 blocks_grow n [] = omega arith
 blocks_grow n (b ∷ bs) = let more : n + block_instructions b ≤ blocks_end (n + block_instructions b) bs = blocks_grow (n + block_instructions b) bs in omega arith
 
-pub first_stands : (n : ℕ) (bs : List Block) → blocks_end n bs ≤ most_instructions → Stands n (slice_get bs 0)
+pub first_stands : (n : ℕ) (bs : List Block) → blocks_end n bs ≤ most_instructions → IsWithinLimit n (slice_get bs 0)
 first_stands n [] le = omega (arith, le)
 first_stands n (b ∷ bs) le = let more : n + block_instructions b ≤ blocks_end (n + block_instructions b) bs = blocks_grow (n + block_instructions b) bs in omega (arith, le, more)
 
-pub left_stands : (b : Option (Bor Block)) (n : ℕ) → Stands n (option_copied b) → n + length (insts_left b 0) ≤ most_instructions
+pub left_stands : (b : Option (Bor Block)) (n : ℕ) → IsWithinLimit n (option_copied b) → n + length (insts_left b 0) ≤ most_instructions
 left_stands b n h = subst (λ (z : List Inst). n + length z ≤ most_instructions) (sym (insts_left-first b)) h
 
 pub ruleset begin_steps = (insts_left-first, term_left-first, first_stands, left_stands)

@@ -1,0 +1,5 @@
+//! Worked programs whose threads are given entries one by one.
+#![tactic(auto)]
+
+#[cfg(test)]
+mod steps;
