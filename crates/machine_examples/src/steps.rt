@@ -137,12 +137,7 @@ fn has_returned(asked: &Ask) -> bool {
 }
 
 /// Whether the thread of a function without parameters asks for these steps, each at its site, and then returns 0.
-fn asks(
-    alloc: Global,
-    text: &str,
-    function: u32,
-    steps: &[(u32, Request)],
-) -> Result<bool, Fail> {
+fn asks(alloc: Global, text: &str, function: u32, steps: &[(u32, Request)]) -> Result<bool, Fail> {
     let program = verified(alloc, text)?;
     if function >= program.function_count() {
         return Err(Fail::new("function"));

@@ -406,7 +406,7 @@ has_counts program es allocs site e words run same are =
       spawned_differ = subst (IsDistinct nat_eq) (sym started) none_differ;
     }
 
-pub run_is_right : (program : Program) (es : List Entry) (allocs : List AllocLog) (site : ℕ) (e : End) → HasRun program es allocs site e 
+pub run_is_right : (program : Program) (es : List Entry) (allocs : List AllocLog) (site : ℕ) (e : End) → HasRun program es allocs site e
     → IsRight (source (setting program)) objects no_host default_limits 0 (start program) (record_of es allocs site e)
 unfolding has_runs
 run_is_right program es allocs site e run =

@@ -1,11 +1,11 @@
 use crate::{is_small, run_small};
 use bsan_ids::{Counters, ListOf, Name, NoMemory, Tag};
+use eager_tree::Violation;
 use history::Verdict;
 use ir_ast::{
     Block, Function, Inst, Jump, Named, Op, Place, Program, ResultTy, Term, Ty, TypedVal, Val,
     Width,
 };
-use eager_tree::Violation;
 use perm_table::{Perm, RetagKind};
 use run_record::{End, RunRecord};
 use std::alloc::Global;

@@ -6,13 +6,13 @@ ghost use Rattle.runs.specs.Parts.{Answers};
 ghost use Rattle.thread_parts.specs.Fits.{ReplyFits};
 
 use bsan_ids::{AllocNo, ListOf, Prov, Stamp, Tag, ThreadNo};
+use eager_tree::Violation;
 use history::{Ask, Entry, MachineEnd, Plain, Reply, Request, Verdict};
 use ir_ast::{HostTable, Place, Ty, Width};
 use ir_reader::read;
 use ir_rules::Verified;
 use ir_verify::verify;
 use perm_table::{Guard, Perm, RetagKind};
-use eager_tree::Violation;
 use source_machine::SourceMachine;
 use std::alloc::Global;
 use std::test::Fail;
@@ -192,7 +192,13 @@ fn make(stamp: u64, site: u32, size: u32) -> Entry {
         size,
         place: Place::Stack,
     };
-    clean(stamp, site, request, Plain::Made(AllocNo(1)), through(stamp))
+    clean(
+        stamp,
+        site,
+        request,
+        Plain::Made(AllocNo(1)),
+        through(stamp),
+    )
 }
 
 fn retag(stamp: u64, site: u32, at: u32, guard: Guard, tag: u64) -> Entry {
@@ -203,7 +209,13 @@ fn retag(stamp: u64, site: u32, at: u32, guard: Guard, tag: u64) -> Entry {
         guard,
         prov: through(tag),
     };
-    clean(stamp, site, request, Plain::Retagged { added: true }, through(stamp))
+    clean(
+        stamp,
+        site,
+        request,
+        Plain::Retagged { added: true },
+        through(stamp),
+    )
 }
 
 fn store(stamp: u64, site: u32, value: u64, tag: u64) -> Entry {
