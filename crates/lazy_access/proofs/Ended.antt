@@ -1,32 +1,31 @@
 -- The end of a protector, in the eager tree's words.
-use Rattle.std.proofs.Common.{◌≡◌, ◌≢◌, zero, suc, replicate, get_or-set_same, ◌⊎◌, ℕ, ◌<◌, ◌≤◌, ◌||◌, not, Bool, true, false, cond, eqb, eq-eqb, List, [], ◌∷◌, length, map, Option, Some, None, refl, sym, ap, subst, ◌∙◌, arith, inl, inr}
+use Rattle.std.proofs.Common.{◌≡◌, ◌≢◌, replicate, get_or-set_same, ℕ, ◌<◌, ◌≤◌, ◌||◌, not, Bool, true, false, eqb, eq-eqb, List, [], ◌∷◌, length, map, Option, Some, None, refl, sym, ap, subst, ◌∙◌, arith, inl, inr}
 use Rattle.std.proofs.lemmas.Bool.{cases_eq, eqb-true, ne_eqb}
 use Rattle.std.proofs.lemmas.List.{get_or-map, length-map, length-set, ext_get_or}
 use Rattle.std.specs.Option.{option_and_then, option_map}
 use Rattle.bsan_ids.specs.declared.numbers.Tag.{Tag}
 use Rattle.perm_table.specs.declared.Perm.{Perm}
 use Rattle.perm_table.specs.declared.Perm.TheVariants.{Unique}
-use Rattle.perm_table.specs.declared.Guard.{Guard}
 use Rattle.perm_table.specs.declared.Guard.TheVariants.{Free}
 use Rattle.perm_table.specs.declared.Kind.{Kind}
 use Rattle.eager_tree.specs.declared.violation.Violation.{Violation}
 use Rattle.eager_tree.specs.declared.violation.Violation.TheVariants.{Denied}
 use Rattle.eager_tree.specs.declared.node.Cell.{Cell}
 use Rattle.eager_tree.specs.declared.node.Node.{Node as Eager}
-use Rattle.eager_tree.specs.Tree.{Tree, Links, links, is_on_path, new_tree}
+use Rattle.eager_tree.specs.Tree.{Tree, links, is_on_path, new_tree}
 use Rattle.eager_tree.specs.Visit.{next_cell, first_denial}
 use Rattle.eager_tree.specs.Steps.{cell_at, implicit_kind, implicit_kinds, is_no_descendant, freed_guard, unguarded, end_protector}
 use Rattle.lazy_tree.specs.declared.slot.Slot.{Slot}
 use Rattle.lazy_tree.specs.declared.tree.Node.{Node}
-use Rattle.lazy_tree.specs.Skip.{node_at, slot_at, no_node, with_free, IsSound, SameLinks}
+use Rattle.lazy_tree.specs.Skip.{node_at, slot_at, no_node, with_free, IsSound}
 use Rattle.lazy_tree.specs.Eager.{eager_cell, eager_node, eager_nodes, eager_with, pair_of}
 use Rattle.lazy_tree.proofs.Finding.{parts, state-found}
 use Rattle.lazy_tree.proofs.SkipLemmas.{node-set, part-kept}
 use Rattle.lazy_access.specs.declared.check.Found.{Found}
-use Rattle.lazy_access.specs.Walk.{IsUnder, IsReached, denies}
+use Rattle.lazy_access.specs.Walk.{IsReached, denies}
 use Rattle.lazy_access.specs.Requests.{local_in, violation_in}
 use Rattle.lazy_access.specs.Ends.{end_kind, NoEndDenial, IsLeastEnd, IsEnded}
-use Rattle.lazy_access.proofs.Ties.{one-tag, under-eager, eager-under, Visits, visit-silent, visit-denied, Steps, visit-done, visit-refused, eager_with-some, node-parts, parents-same, eager_at, length-eager}
+use Rattle.lazy_access.proofs.Ties.{one-tag, under-eager, eager-under, visit-silent, visit-denied, Steps, visit-done, visit-refused, eager_with-some, node-parts, parents-same, eager_at, length-eager}
 use Rattle.lazy_access.proofs.Accessing.{visits-at, root-visit}
 
 -- the nodes of the eager tree

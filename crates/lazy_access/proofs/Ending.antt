@@ -1,24 +1,23 @@
 -- The end of a protector: the run of a node at hand, and one run after another.
-use Rattle.std.proofs.Common.{◌≡◌, ◌≢◌, ◌⊎◌, ℕ, zero, suc, ◌+◌, ◌-◌, ◌*◌, ◌<◌, ◌≤◌, ◌||◌, Bool, true, false, eqb, eq-eqb, List, length, get_or, Option, Some, None, MatchOption, refl, sym, ap, subst, ◌∙◌, arith, inl, inr}
+use Rattle.std.proofs.Common.{◌≡◌, ◌⊎◌, ℕ, ◌+◌, ◌-◌, ◌*◌, ◌<◌, ◌≤◌, ◌||◌, Bool, true, false, eqb, eq-eqb, List, length, get_or, Option, Some, None, refl, sym, ap, subst, ◌∙◌, arith, inl, inr}
 use Rattle.std.proofs.lemmas.Bool.{cases_lt, cases_eq, ne_eqb}
 use Rattle.bsan_ids.specs.declared.numbers.Span.{Span}
 use Rattle.perm_table.specs.declared.Guard.{Guard}
 use Rattle.perm_table.specs.declared.Kind.{Kind}
 use Rattle.perm_table.specs.declared.Kind.TheVariants.{Read, Write}
 use Rattle.range_map.specs.Ranges.{IsRanges, has_start, next_start}
-use Rattle.eager_tree.specs.declared.node.Cell.{Cell}
 use Rattle.eager_tree.specs.Visit.{next_cell}
 use Rattle.eager_tree.specs.Steps.{implicit_kind}
 use Rattle.lazy_tree.specs.declared.slot.Slot.{Slot}
 use Rattle.lazy_tree.specs.declared.tree.Node.{Node}
 use Rattle.lazy_tree.specs.Ring.{count}
-use Rattle.lazy_tree.specs.Skip.{node_at, slot_at, no_slot, need, rank, run_after, IsSound, SameLinks}
+use Rattle.lazy_tree.specs.Skip.{node_at, slot_at, no_slot, need, rank, run_after, IsSound}
 use Rattle.lazy_tree.specs.Eager.{eager_cell}
 use Rattle.lazy_tree.specs.Quiet.{slot_outcome}
 use Rattle.lazy_tree.proofs.Counting.{count-split, count-first, count-none, count-within}
 use Rattle.lazy_access.specs.declared.check.Found.{Found}
 use Rattle.lazy_access.specs.Step.{stepped, is_denied}
-use Rattle.lazy_access.specs.Walk.{IsReached, IsMet, IsCovered, Finds, denies}
+use Rattle.lazy_access.specs.Walk.{IsReached, IsMet, Finds, denies}
 use Rattle.lazy_access.specs.Change.{AddsStarts, IsDone, IsRoomier}
 use Rattle.lazy_access.specs.Requests.{local_in, HasCuts, HasRoom}
 use Rattle.lazy_access.specs.Ends.{end_kind, DeniesEnd, NoEndDenial, IsLeastEnd, FindsEnd, IsEnded, runs_from, HasEndRoomOn}

@@ -1,6 +1,6 @@
 -- The nodes that a walk meets where an access changes nothing: the ring of its node, each at the pieces of
 -- the span.
-use Rattle.std.proofs.Common.{◌≡◌, ◌≢◌, ◌⊎◌, ℕ, zero, suc, ◌+◌, ◌-◌, ◌*◌, ◌<◌, ◌≤◌, ◌||◌, ◌&&◌, nat_lt, Bool, true, false, eqb, eq-eqb, List, [], ◌∷◌, length, filter, replicate, get_or, MatchOption, IfSome, Option, Some, None, Result, Ok, Err, OnOk, OnErr, refl, sym, ap, subst, ◌∙◌, arith, inl, inr}
+use Rattle.std.proofs.Common.{◌≡◌, ◌≢◌, ◌⊎◌, ℕ, ◌+◌, ◌-◌, ◌*◌, ◌<◌, ◌≤◌, ◌||◌, ◌&&◌, nat_lt, Bool, true, false, eqb, eq-eqb, List, [], ◌∷◌, length, replicate, get_or, MatchOption, IfSome, Option, Some, None, Result, Ok, Err, OnOk, OnErr, refl, sym, ap, subst, ◌∙◌, arith, inl, inr}
 use Rattle.std.proofs.lemmas.Bool.{cases_lt, cases_eq, ne_eqb}
 use Rattle.std.proofs.lemmas.Bool.Decides.{nat_tests}
 use Rattle.std.proofs.Math.Nat.{mul-le-mul_right, add-mul}
@@ -13,7 +13,7 @@ use Rattle.range_map.specs.Ranges.{Ranges, has_start}
 use Rattle.eager_tree.specs.Tree.{Tree, links, is_node, is_on_path}
 use Rattle.lazy_tree.specs.declared.tree.Node.{Node}
 use Rattle.lazy_tree.specs.Order.{after_among}
-use Rattle.lazy_tree.specs.Quiet.{IsQuietSlot, IsQuietNode, IsQuiet, KeepsQuiet, KeepsCuts}
+use Rattle.lazy_tree.specs.Quiet.{IsQuietSlot, IsQuietNode, KeepsQuiet, KeepsCuts}
 use Rattle.lazy_tree.specs.Shape.{Shape}
 use Rattle.lazy_tree.specs.declared.slot.Slot.{Slot}
 use Rattle.perm_table.specs.declared.Guard.{Guard}

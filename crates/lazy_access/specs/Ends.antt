@@ -1,5 +1,5 @@
 -- The end of a node's protector.
-use Rattle.std.specs.Prelude.{ℕ, ◌+◌, ◌-◌, ◌*◌, ◌<◌, ◌≤◌, ◌≡◌, ◌⊎◌, ◌==◌, ◌||◌, Bool, false, List, length, Option, Some, None, IsTrue, IsFalse, MatchOption}
+use Rattle.std.specs.Prelude.{ℕ, ◌-◌, ◌*◌, ◌<◌, ◌≤◌, ◌≡◌, ◌⊎◌, ◌==◌, ◌||◌, false, List, length, Option, Some, IsTrue, IsFalse, MatchOption}
 use Rattle.perm_table.specs.declared.Kind.{Kind}
 use Rattle.range_map.specs.Ranges.{has_start}
 use Rattle.eager_tree.specs.Visit.{next_cell}

@@ -1,9 +1,7 @@
 -- The requests to a tree, and what makes it ready for one.
-use Rattle.std.specs.Prelude.{ℕ, ◌<◌, ◌≤◌, ◌≡◌, ◌⊎◌, Bool, List, length, slice_index_or, Option, Some, None, IsFalse, MatchOption}
-use Rattle.bsan_ids.specs.declared.numbers.Tag.{Tag}
+use Rattle.std.specs.Prelude.{ℕ, ◌<◌, ◌≤◌, ◌≡◌, ◌⊎◌, Bool, List, length, slice_index_or, Option, Some, None, IsFalse}
 use Rattle.bsan_ids.specs.declared.numbers.Span.{Span}
 use Rattle.perm_table.specs.declared.Kind.{Kind}
-use Rattle.perm_table.specs.declared.Kind.TheVariants.{Read}
 use Rattle.perm_table.specs.declared.Guard.{Guard}
 use Rattle.perm_table.specs.declared.RetagKind.{RetagKind}
 use Rattle.perm_table.specs.Table.{starting}

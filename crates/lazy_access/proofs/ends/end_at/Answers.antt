@@ -1,9 +1,9 @@
-use Rattle.std.proofs.Common.{◌≡◌, ◌<◌, ◌≤◌, ℕ, true, Some, None, List, length, Option, refl, sym, ap, subst, ◌∙◌, arith}
+use Rattle.std.proofs.Common.{◌≡◌, ◌<◌, true, Some, None, List, length, Option, sym, ap, subst, ◌∙◌, arith}
 use Rattle.eager_tree.specs.declared.violation.Violation.{Violation}
 use Rattle.eager_tree.specs.Tree.{Tree}
 use Rattle.lazy_tree.specs.declared.tree.Node.{Node}
 use Rattle.lazy_tree.specs.Shape.{Shape}
-use Rattle.lazy_tree.specs.Skip.{with_free, IsSound}
+use Rattle.lazy_tree.specs.Skip.{IsSound}
 use Rattle.lazy_tree.specs.Eager.{eager_of, eager_with}
 use Rattle.lazy_access.specs.declared.check.Found.{Found}
 use Rattle.lazy_access.specs.Requests.{violation_in}

@@ -1,11 +1,9 @@
-use Rattle.std.proofs.Common.{◌≡◌, ◌+◌, ◌-◌, ◌<◌, ◌≤◌, ℕ, Some, None, false, List, length, Option, refl, sym, ap, subst, ◌∙◌, arith}
+use Rattle.std.proofs.Common.{◌≡◌, ◌-◌, Some, None, false, List, length, refl, sym, ap, subst, ◌∙◌, arith}
 use Rattle.bsan_ids.specs.declared.numbers.Span.{Span}
-use Rattle.perm_table.specs.declared.Kind.{Kind}
 use Rattle.eager_tree.specs.Steps.{implicit_kind}
 use Rattle.lazy_tree.specs.declared.slot.Slot.{Slot}
 use Rattle.lazy_tree.specs.declared.tree.Node.{Node}
 use Rattle.lazy_tree.specs.Shape.{Shape}
-use Rattle.lazy_tree.specs.Skip.{run_after}
 use Rattle.lazy_tree.specs.Eager.{eager_cell}
 use Rattle.lazy_access.specs.Walk.{IsMet, Finds}
 use Rattle.lazy_access.specs.Change.{IsDone}

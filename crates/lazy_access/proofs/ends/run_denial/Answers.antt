@@ -1,15 +1,13 @@
-use Rattle.std.proofs.Common.{◌≡◌, ◌+◌, ◌-◌, ◌<◌, ◌≤◌, ℕ, Some, None, false, List, length, Option, sym, ap, subst, ◌∙◌, arith}
-use Rattle.perm_table.specs.declared.Kind.{Kind}
+use Rattle.std.proofs.Common.{◌≡◌, ◌-◌, Some, false, List, length, sym, ap, subst, ◌∙◌, arith}
 use Rattle.eager_tree.specs.Steps.{implicit_kind}
 use Rattle.lazy_tree.specs.declared.slot.Slot.{Slot}
 use Rattle.lazy_tree.specs.declared.tree.Node.{Node}
 use Rattle.lazy_tree.specs.Shape.{Shape}
-use Rattle.lazy_tree.specs.Skip.{run_after}
 use Rattle.lazy_tree.specs.Eager.{eager_cell}
 use Rattle.lazy_access.specs.Walk.{IsMet, Finds}
 use Rattle.lazy_access.specs.Requests.{local_in}
 use Rattle.lazy_access.specs.Ends.{end_kind, FindsEnd}
-use Rattle.lazy_access.proofs.Ending.{run-none, run-found}
+use Rattle.lazy_access.proofs.Ending.{run-found}
 use Rattle.lazy_access.proofs.ends.run_denial.Goals as goal
 
 pub returns-in-Some-clause-found : goal.returns-in-Some-clause-found

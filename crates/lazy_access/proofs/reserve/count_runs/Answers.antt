@@ -1,4 +1,4 @@
-use Rattle.std.proofs.Common.{◌≡◌, sym, ◌∙◌, arith}
+use Rattle.std.proofs.Common.{arith}
 use Rattle.lazy_access.proofs.Ending.{runs-step}
 use Rattle.lazy_access.proofs.reserve.count_runs.Goals as goal
 

@@ -1,11 +1,9 @@
-use Rattle.std.proofs.Common.{◌≡◌, ◌*◌, ◌<◌, ◌≤◌, ℕ, List, length, Some, refl, sym, ap, subst, ◌∙◌, arith}
-use Rattle.lazy_tree.specs.declared.tree.Node.{Node}
+use Rattle.std.proofs.Common.{◌≡◌, ◌*◌, sym, ap, subst, ◌∙◌, arith}
 use Rattle.lazy_tree.specs.Shape.{Shape}
 use Rattle.lazy_tree.specs.Skip.{run_after}
-use Rattle.lazy_access.specs.Change.{IsRoomier}
 use Rattle.lazy_access.specs.Ends.{HasEndRoomOn, runs_from}
-use Rattle.lazy_access.proofs.Reserving.{roomier-itself, roomier-through}
-use Rattle.lazy_access.proofs.Ending.{end-room-none, end-room-more, end-room-less, run-after-same, runs-same}
+use Rattle.lazy_access.proofs.Reserving.{roomier-through}
+use Rattle.lazy_access.proofs.Ending.{end-room-more, end-room-less, run-after-same, runs-same}
 use Rattle.lazy_access.proofs.reserve.reserve_ends.Goals as goal
 
 pub runs-preserved : goal.runs-preserved
