@@ -112,7 +112,7 @@ main_first : (fs : List Function) → AreSmallFunctions fs → function_place fs
 main_first [] h = absurd h
 main_first (f ∷ []) h = by_name (bytes_eq f.name.name (codes "main")) ((bytes_decides f.name.name (codes "main")).1 h.name)
   where
-    by_name : (b : Bool) → b ≡ true → (if b then 0 else 1) ≡ 0
+    by_name : (b : Bool) → b ≡ true → (let place : ℕ = if b then 0 else 1 in place) ≡ 0
     by_name true is = refl
     by_name false is = cc
 main_first (f ∷ g ∷ fs) h = absurd h

@@ -4,7 +4,7 @@ ghost use Rattle.history.specs.Histories.{fits, is_make, HasBytes};
 ghost use Rattle.history.specs.declared.entry.Request.TheVariants as request;
 ghost use Rattle.alloc_state.specs.Log.{has_make};
 ghost use Rattle.ir_ast.specs.declared.types.Place.TheVariants.{Stack};
-ghost use Rattle.thread_parts.specs.Parts as spec_parts;
+ghost use Rattle.thread_parts.specs.Words as spec_words;
 ghost use Rattle.small_run.specs.declared.steps.Halt.TheVariants.{NoMemory};
 ghost use Rattle.small_run.specs.Steps.{IsStep, Takes, AreKept, alloc_log, longer, entry_on, with_make, next_root};
 
@@ -110,7 +110,7 @@ fn step_on(
 
 /// The number in a reply.
 fn number_in(plain: &Plain) -> u64
-    ensures { result ≡ spec_parts.number_in plain.now }
+    ensures { result ≡ spec_words.number_in plain.now }
 {
     match plain {
         Plain::Made(number) => u64::from(number.0),
