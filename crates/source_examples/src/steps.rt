@@ -2,7 +2,7 @@
 ghost use Rattle.std.specs.Prelude.{◌≡◌, Option, Some, IfSome};
 ghost use Rattle.history.specs.declared.ask.Ask.TheVariants as asked;
 ghost use Rattle.ir_ast.specs.declared.types.Ty.{Ty as AnyTy};
-ghost use Rattle.runs.specs.Parts.{Answers};
+ghost use Rattle.history.specs.Replies.{Answers};
 ghost use Rattle.thread_parts.specs.Fits.{ReplyFits};
 
 use bsan_ids::{AllocNo, ListOf, Prov, Stamp, Tag, ThreadNo};
