@@ -1,6 +1,5 @@
 //! What a thread asks by the parts of its instructions.
-ghost use Rattle.std.specs.Prelude.{◌≡◌, ◌*◌, ◌-◌, ℕ, Some, None, min, IfOk, OnErr};
-ghost use Rattle.history.specs.declared.ask.Arg.{Arg};
+ghost use Rattle.std.specs.Prelude.{◌≡◌, ◌*◌, ◌-◌, Some, None, min, IfOk, OnErr};
 ghost use Rattle.source_sem.specs.Env as env;
 ghost use Rattle.thread_parts.specs.Words as words;
 ghost use Rattle.thread_parts.specs.Asks.{AsksAllocation};
@@ -113,8 +112,8 @@ fn piece_len(len: u64, pieces: u64) -> u8
 }
 
 /// What a copy from a pointer asks for its next piece, of so many bytes in all, where so many pieces were copied.
-pub fn copy_out_ask(from: Arg, len: u64, pieces: u64) -> Ask
-    ensures { (to : Arg) → result ≡ copies.copy_ask_by to from len pieces None }
+pub fn copy_out_ask(to: Arg, from: Arg, len: u64, pieces: u64) -> Ask
+    ensures { result ≡ copies.copy_ask_by to from len pieces None }
 {
     let (alloc, at) = parts(piece_at(from.value, pieces));
     let request = Request::CopyOut {
@@ -143,11 +142,13 @@ fn kept_piece(alloc: Global, kept: &Option<PieceBuffer>) -> Result<Piece, NoMemo
 pub fn copy_in_ask(
     alloc: Global,
     to: Arg,
+    from: Arg,
+    len: u64,
     pieces: u64,
     kept: &Option<PieceBuffer>,
 ) -> Result<Ask, NoMemory>
-    ensures asks { (from : Arg) (len : ℕ) → IfOk result (λ ask. ask ≡ copies.copy_ask_by to from len pieces (Some (bytes_in kept.now))) }
-    ensures refused { (from : Arg) (len : ℕ) → OnErr result (AsksAllocation (copies.copy_ask_by to from len pieces (Some (bytes_in kept.now)))) }
+    ensures asks { IfOk result (λ ask. ask ≡ copies.copy_ask_by to from len pieces (Some (bytes_in kept.now))) }
+    ensures refused { OnErr result (AsksAllocation (copies.copy_ask_by to from len pieces (Some (bytes_in kept.now)))) }
 {
     let piece = kept_piece(alloc, kept)?;
     let (alloc, at) = parts(piece_at(to.value, pieces));
@@ -168,7 +169,7 @@ pub fn part_ask(part: Part) -> Ask
         Part::Fails(trap) => Ask::Ended(MachineEnd::Trapped(trap)),
         Part::Steps(step) => step_ask(step),
         Part::Retags(pointer, kind, len) => retag_ask(pointer, kind, Guard::Free, len),
-        Part::Copies(_, from, len) => copy_out_ask(from, len, 0),
+        Part::Copies(to, from, len) => copy_out_ask(to, from, len, 0),
         Part::Joins(child, ..) => Ask::Join {
             child: ThreadNo(child),
         },

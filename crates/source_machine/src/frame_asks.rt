@@ -99,9 +99,9 @@ fn copying_ask(
     match frame.part(text, depth, inst) {
         Part::Copies(to, from, len) => {
             if read {
-                copy_in_ask(alloc, to, pieces, &frame.piece)
+                copy_in_ask(alloc, to, from, len, pieces, &frame.piece)
             } else {
-                Ok(copy_out_ask(from, len, pieces))
+                Ok(copy_out_ask(to, from, len, pieces))
             }
         }
         Part::Gives(_)

@@ -1,6 +1,6 @@
 //! The source machine.
 ghost use Rattle.std.specs.Prelude.{◌≡◌, true, false, IfOk, OnOk, OnErr};
-ghost use Rattle.runs.specs.Parts.{Answers};
+ghost use Rattle.history.specs.Replies.{Answers};
 ghost use Rattle.runs.specs.Threads.{AsksSpawn};
 ghost use Rattle.thread_parts.specs.Asks.{AsksAllocation};
 ghost use Rattle.source_sem.specs.Starting.{setting_of};
