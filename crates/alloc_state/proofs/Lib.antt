@@ -3,3 +3,4 @@ pub mod TagsBelow
 pub mod Makes
 pub mod Rooms
 mod ByteCopies
+pub mod PieceBytes

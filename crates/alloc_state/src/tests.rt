@@ -1,6 +1,7 @@
 ghost use Rattle.std.specs.Prelude.{◌≡◌, ◌<◌, ◌*◌, ◌^◌, All, IsTrue, nat_lt, true, false};
+ghost use Rattle.ir_ast.specs.Tokens.{Each};
 ghost use Rattle.ir_ast.specs.Words.{ty_bytes};
-ghost use Rattle.history.specs.Histories.{fits, is_make};
+ghost use Rattle.history.specs.Histories.{fits, is_make, HasBytes};
 ghost use Rattle.alloc_state.specs.Log.{has_make};
 
 use super::AllocState;
@@ -721,6 +722,24 @@ fn is_first_make(state: &AllocState, request: &Request) -> bool
     }
 }
 
+/// What holds of each piece: its bytes are bytes. It goes through the piece for the proof alone.
+fn holds_bytes(piece: &Piece)
+    ensures { Each (λ b. b.0 < 256) piece.now }
+{
+    for at in 0..piece.len() {
+        let _ = piece.get(at);
+    }
+}
+
+/// What holds of each request: the bytes that it writes are bytes.
+fn writes_bytes(request: &Request)
+    ensures { HasBytes request.now }
+{
+    if let Request::CopyIn { piece, .. } = request {
+        holds_bytes(piece);
+    }
+}
+
 /// The reply of the step, where the allocation may be asked for it next.
 fn answered(
     state: &mut AllocState,
@@ -737,6 +756,7 @@ fn answered(
         return Ok(None);
     }
     state.prepare(&request)?;
+    writes_bytes(&request);
     let Entry { reply, .. } = state.commit(ThreadNo(0), Stamp(stamp), 0, request);
     Ok(Some(reply))
 }
