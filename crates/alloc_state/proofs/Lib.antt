@@ -3,4 +3,3 @@ pub mod TagsBelow
 pub mod Makes
 pub mod Rooms
 mod ByteCopies
-pub mod PieceBytes
