@@ -1,5 +1,0 @@
-//! Whole programs whose threads are given replies one by one.
-#![tactic(auto)]
-
-#[cfg(test)]
-mod steps;

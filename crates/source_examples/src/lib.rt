@@ -1,5 +1,0 @@
-//! Worked programs whose threads are given entries one by one.
-#![tactic(auto)]
-
-#[cfg(test)]
-mod steps;
