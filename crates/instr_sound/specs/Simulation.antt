@@ -1,4 +1,4 @@
--- A thread over target code stands for a thread over the text.
+-- A thread over target code simulates a thread over the text.
 use Rattle.std.specs.Prelude.{◌≡◌, ℕ, ◌+◌, ◌%◌, ◌^◌, List, [], ◌∷◌, Option, Some, None, true, false, length, get_or, slice_get}
 use Rattle.bsan_ids.specs.declared.numbers.Prov.{Prov}
 use Rattle.history.specs.declared.ask.Arg.{Arg}
@@ -125,7 +125,7 @@ MayTake x g (Some r) None = ⊥
 MayTake x g (Some r) (Some ty) = HasType g r.name ty × HasRegister x r
 
 -- the newest frame
-pub record TopStands (p : Program) (hosts : List HostEntry) (g : Function) (f : Frame) (h : Hidden) : Type 0 where
+pub record TopSimulates (p : Program) (hosts : List HostEntry) (g : Function) (f : Frame) (h : Hidden) : Type 0 where
   pub known : slice_get p.functions f.function ≡ Some g
   pub holds : SlotsHold (scope_of p.functions hosts g) g f.env h.words h.shadows
   pub insts_fit : Each (InstFits p (scope_of p.functions hosts g) g) f.insts
@@ -159,22 +159,22 @@ pub record CallerWaits (p : Program) (hosts : List HostEntry) (f : Frame) (t : T
   pub takes : MayTake (scope_of p.functions hosts code) code dest ty
   pub is : t ≡ waiting_frame (scope_of p.functions hosts code) f dest ty attr words shadows handed given
 
-abbrev pub CallerStands : Program → List HostEntry → Frame → TargetFrame → Doing → Type 0
-CallerStands p hosts f t (Waiting dest ty attr) = CallerWaits p hosts f t dest ty attr
-CallerStands p hosts f t other = ⊥
+abbrev pub CallerSimulates : Program → List HostEntry → Frame → TargetFrame → Doing → Type 0
+CallerSimulates p hosts f t (Waiting dest ty attr) = CallerWaits p hosts f t dest ty attr
+CallerSimulates p hosts f t other = ⊥
 
-abbrev pub CallersStand : Program → List HostEntry → List Frame → List TargetFrame → Type 0
-CallersStand p hosts [] [] = Unit {0}
-CallersStand p hosts [] (t ∷ ts) = ⊥
-CallersStand p hosts (f ∷ fs) [] = ⊥
-CallersStand p hosts (f ∷ fs) (t ∷ ts) = CallerStands p hosts f t f.doing × CallersStand p hosts fs ts
+abbrev pub CallersSimulate : Program → List HostEntry → List Frame → List TargetFrame → Type 0
+CallersSimulate p hosts [] [] = Unit {0}
+CallersSimulate p hosts [] (t ∷ ts) = ⊥
+CallersSimulate p hosts (f ∷ fs) [] = ⊥
+CallersSimulate p hosts (f ∷ fs) (t ∷ ts) = CallerSimulates p hosts f t f.doing × CallersSimulate p hosts fs ts
 
 -- a thread with frames
 pub record Going (p : Program) (hosts : List HostEntry) (input : List ℕ) (f : Frame) (fs : List Frame) (count : ℕ) (t : Thread) : Type 0 where
   pub code : Function
   pub hidden : Hidden
-  pub top : TopStands p hosts code f hidden
-  pub callers : CallersStand p hosts fs hidden.callers
+  pub top : TopSimulates p hosts code f hidden
+  pub callers : CallersSimulate p hosts fs hidden.callers
   pub is : t ≡ go_on input (lines_for (scope_of p.functions hosts code) f.number f.insts f.term hidden.params f.doing) (image f.function f.number f.owned f.doing count hidden)
 
 -- a thread that has ended
@@ -183,10 +183,10 @@ pub record IsOver (s : Source) (t : Thread) : Type 0 where
   pub site : t.top.site ≡ s.last
   pub count : t.count ≡ s.count
 
-abbrev pub StandsBy : Program → List HostEntry → List ℕ → Source → Thread → List Frame → Type 0
-StandsBy p hosts input s t [] = IsOver s t
-StandsBy p hosts input s t (f ∷ fs) = Going p hosts input f fs s.count t
+abbrev pub SimulatesBy : Program → List HostEntry → List ℕ → Source → Thread → List Frame → Type 0
+SimulatesBy p hosts input s t [] = IsOver s t
+SimulatesBy p hosts input s t (f ∷ fs) = Going p hosts input f fs s.count t
 
--- the target thread stands for the source thread
-abbrev pub Stands : Program → List HostEntry → List ℕ → Source → Thread → Type 0
-Stands p hosts input s t = StandsBy p hosts input s t s.frames
+-- the target thread simulates the source thread
+abbrev pub Simulates : Program → List HostEntry → List ℕ → Source → Thread → Type 0
+Simulates p hosts input s t = SimulatesBy p hosts input s t s.frames
