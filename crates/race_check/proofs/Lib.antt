@@ -1,0 +1,13 @@
+pub mod Vectors
+pub mod Exact
+pub mod Places
+pub mod Walk
+pub mod Noted
+pub mod Conflicts
+pub mod Rows
+pub mod Tracking
+pub mod Steps
+pub mod Single
+pub mod Described
+pub mod Lines
+pub mod Samples

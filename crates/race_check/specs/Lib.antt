@@ -1,0 +1,10 @@
+pub mod Accesses
+pub mod Races
+pub mod Keys
+pub mod Clocks
+pub mod Slots
+pub mod Vectors
+pub mod Uses
+pub mod Tracked
+pub mod Found
+pub mod Text
