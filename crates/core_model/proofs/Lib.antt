@@ -8,6 +8,5 @@ pub mod Taking
 pub mod Numbers
 pub mod SeenLists
 pub mod Settling
-pub mod Turning
 pub mod Resting
 pub mod Keeping
