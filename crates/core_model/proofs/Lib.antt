@@ -10,3 +10,4 @@ pub mod SeenLists
 pub mod Settling
 pub mod Resting
 pub mod Keeping
+pub mod Ready
