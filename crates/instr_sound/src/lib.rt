@@ -4,5 +4,7 @@
 pub mod laws;
 mod sound;
 mod text;
+mod thread;
 
 pub use sound::SoundMachine;
+pub use thread::Thread;

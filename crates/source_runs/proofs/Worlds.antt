@@ -4,6 +4,7 @@ use Rattle.std.specs.Prelude.{slice_get, ◌==◌, codes}
 use Rattle.std.proofs.lemmas.Bool.{true≢false}
 use Rattle.std.proofs.lemmas.Bool.Decides.{nat_tests}
 use Rattle.bsan_ids.specs.declared.numbers.AllocNo.{AllocNo}
+use Rattle.bsan_ids.specs.declared.numbers.Limits.{Limits}
 use Rattle.bsan_ids.specs.declared.numbers.Prov.{Prov}
 use Rattle.bsan_ids.specs.declared.numbers.ThreadNo.{ThreadNo}
 use Rattle.history.specs.Histories.{HasBytes}
@@ -22,12 +23,13 @@ use Rattle.ir_ast.specs.Tokens.{Each}
 use Rattle.ir_ast.specs.declared.hosts.HostTable.{HostTable}
 use Rattle.ir_ast.specs.declared.program.Function.{Function}
 use Rattle.ir_ast.specs.declared.program.Param.{Param}
+use Rattle.ir_ast.specs.declared.program.Program.{Program}
 use Rattle.ir_ast.specs.declared.types.Ty.{Ty}
 use Rattle.ir_rules.specs.declared.rule.Rule.TheVariants.{NoMain}
 use Rattle.ir_rules.specs.Rules.{IsAccepted, function_named}
 use Rattle.ir_rules.specs.Rules.Broken.{no_main}
 use Rattle.runs.specs.Interleaving.{World, first_world, world_after, HasReturned, Allowed, Replies, Event, Interleaves, last_world}
-use Rattle.runs.specs.Machine.{TurnsTo}
+use Rattle.runs.specs.Machine.{Settles, TurnsTo}
 use Rattle.runs.specs.ReplayLaw.{record_of, FitsAlways}
 use Rattle.runs.proofs.ObjectLaws.{objects_make_alone}
 use Rattle.runs.proofs.ReplayRight.{replay_is_right}
@@ -426,9 +428,34 @@ module _ (x : Setting) (hosts : HostTable) (A : Allowed) (program : IsProgram x.
   always : FitsAlways (source x) objects A (main_start x)
   always es run e v = (facts (last_world (source x) objects A (first_world (source x) objects (main_start x)) es run) (last_fits (first_world (source x) objects (main_start x)) es run first_fits) e v).1.fits
 
+  -- what a thread asks to write is of bytes
+  bytes_asked : (es : List Entry) (run : Interleaves (source x) objects A (first_world (source x) objects (main_start x)) es) (t : ℕ) (s now : Source)
+      → (last_world (source x) objects A (first_world (source x) objects (main_start x)) es run).threads t ≡ Some s → Settles (source x) s now → (b : AllocNo) (r : Request) → source_ask x now ≡ ask.At b r → HasBytes r
+  bytes_asked es run t s now at settles b r asked =
+      let w : World (source x) objects = last_world (source x) objects A (first_world (source x) objects (main_start x)) es run in
+      let i : WorldFits x w = last_fits (first_world (source x) objects (main_start x)) es run first_fits in
+      let f = turns_fit w.threads i.kinds (i.kinds t) settles.0 s now settles.1 (i.threads t s at) in
+      (law w.threads i.kinds).pieces f.code.result.ty now b r f.words asked
+
+host_words_of : (limits : Limits) (hosts : HostTable) → HostWords (allowed limits hosts)
+host_words_of limits hosts n first second answer one two is = entry_words (slice_get hosts.entries n) first second answer one two is
+
 pub replies_always_fit : RepliesAlwaysFit
 replies_always_fit x limits hosts program ok bytes less =
-    always x hosts (allowed limits hosts) program ok bytes less (λ n first second answer one two is. entry_words (slice_get hosts.entries n) first second answer one two is)
+    always x hosts (allowed limits hosts) program ok bytes less (host_words_of limits hosts)
+
+-- in every run of an accepted program, what a thread asks to write is of bytes
+pub pieces_are_bytes : (x : Setting) (limits : Limits) (hosts : HostTable) → IsProgram x.program → IsAccepted x.program hosts → Each (λ b. b < 256) x.input → limits.allocs < 2 ^ 32
+    → (es : List Entry) (run : Interleaves (source x) objects (allowed limits hosts) (first_world (source x) objects (main_start x)) es) (t : ℕ) (s now : Source)
+    → (last_world (source x) objects (allowed limits hosts) (first_world (source x) objects (main_start x)) es run).threads t ≡ Some s → Settles (source x) s now → (b : AllocNo) (r : Request) → source_ask x now ≡ ask.At b r → HasBytes r
+pieces_are_bytes x limits hosts program ok bytes less = bytes_asked x hosts (allowed limits hosts) program ok bytes less (host_words_of limits hosts)
+
+-- an accepted program has its main
+pub main_there : (program : Program) (hosts : HostTable) → IsProgram program → IsAccepted program hosts → (g : Function) × (slice_get program.functions (main_of program) ≡ Some g)
+main_there program hosts accepts ok =
+    let limits : Limits = record { steps = 0; turns = 0; allocs = 0 } in
+    let main = main_fits (setting_of program [] hosts) hosts (allowed limits hosts) accepts ok tt (omega arith) (host_words_of limits hosts) in
+    (main.code, main.is_code)
 
 pub replays_leave_right_records : ReplaysLeaveRightRecords
 replays_leave_right_records program input hosts limits schedule last accepts ok bytes less replay =

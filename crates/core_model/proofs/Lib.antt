@@ -1,0 +1,13 @@
+pub mod Places
+pub mod StepFacts
+pub mod Standing
+pub mod Coming
+pub mod Objects
+pub mod Choosing
+pub mod Taking
+pub mod Numbers
+pub mod SeenLists
+pub mod Settling
+pub mod Turning
+pub mod Resting
+pub mod Keeping
