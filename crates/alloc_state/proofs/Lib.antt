@@ -1,5 +1,5 @@
 pub mod LongerHistory
 pub mod TagsBelow
 pub mod Makes
-pub mod Rooms
+pub mod Answering
 mod ByteCopies

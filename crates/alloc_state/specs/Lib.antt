@@ -1,5 +1,7 @@
-pub mod Prepared
-pub mod Kits
-pub mod Log
-pub mod ShortReplies
+pub mod PlainValues
+pub mod Outcomes
+pub mod Asking
+pub mod Counted
 pub mod MadeValues
+pub mod Prepared
+pub mod Log

@@ -1,13 +1,20 @@
 -- An allocation's object with the request for which memory was taken.
-use Rattle.std.specs.Prelude.{ℕ, ◌<◌, Option, is_some, MatchOption, All, ◌≤◌, Bool, true, false, ◌*◌, length}
-use Rattle.std.specs.Option.{option_map}
+use Rattle.std.specs.Prelude.{ℕ, ◌≡◌, ◌<◌, Option, None, is_some, MatchOption, All, Bool, replicate}
+use Rattle.ir_ast.specs.declared.types.Place.{Place}
+use Rattle.history.specs.Memory.{made_memory}
 use Rattle.history.specs.declared.entry.Request.{Request}
-use Rattle.history.specs.declared.entry.Request.TheVariants.{Store, Modify, CmpXchg, CopyOut, CopyIn, Retag}
-use Rattle.history.specs.Objects.{Object, Made}
-use Rattle.alloc_state.specs.MadeValues.{MadeValue}
+use Rattle.history.specs.declared.entry.Request.TheVariants.{Make}
+use Rattle.history.specs.Objects.{Object}
+use Rattle.lazy_tree.specs.Shape.{Shape}
+use Rattle.alloc_state.specs.PlainValues.{PlainValue}
+use Rattle.alloc_state.specs.MadeValues.{MadeValue, made_in, IsPrepared}
+use Rattle.alloc_state.specs.Outcomes.{HasBytesOut}
+use Rattle.alloc_state.specs.declared.object_state.Ready.{Ready}
 
+-- the object, the lazy tree that it keeps, and the request that is ready
 pub record Prepared : Type 0 where
   pub object : Object
+  pub tree : Option Shape
   pub ready : Option Request
 
 -- every tag of the tree is below a bound
@@ -18,34 +25,19 @@ AreBelow bound o = MatchOption o.made (Unit {0}) (λ m. All (λ n. n.tag.0 < bou
 abbrev pub is_made_in : Object → Bool
 is_made_in o = is_some o.made
 
--- the object for which the fields of a state stand
-abbrev pub made_in : Option MadeValue → Option Made
-made_in made = option_map (λ v. v.made) made
+-- plain memory as a Make makes it
+pub record IsNew (size : ℕ) (place : Place) (plain : PlainValue) : Type 0 where
+  pub memory : plain.memory ≡ made_memory size place
+  pub shadow : plain.shadow ≡ replicate size None
 
-abbrev pub object_in : ℕ → Option MadeValue → Object
-object_in number made = record { number = number; made = made_in made }
+-- a Make takes its memory with it, and no other request does
+abbrev pub IsFreshFor : Request → Option PlainValue → Type 0
+IsFreshFor (Make size place) fresh = MatchOption fresh ⊥ (IsNew size place)
+IsFreshFor request fresh = fresh ≡ None
 
--- room for runs of fragments and for nodes in an allocation that is made
-pub record HasSpare (frags nodes : ℕ) (v : MadeValue) : Type 0 where
-  pub frag_room : frags ≤ v.frag_room
-  pub node_room : nodes ≤ v.node_room
-
-abbrev pub IsSpare : ℕ → ℕ → Option MadeValue → Type 0
-IsSpare frags nodes made = MatchOption made (Unit {0}) (λ v. HasSpare frags nodes v)
-
--- how many runs of fragments a request may add: a write cuts at both ends, a piece's at those of each byte
-abbrev pub needs_frags : Request → ℕ
-needs_frags (Store at ty value carried prov) = 2
-needs_frags (Modify at width op value prov) = 2
-needs_frags (CmpXchg at width expected value prov) = 2
-needs_frags (CopyIn at piece prov) = 2 * length piece
-needs_frags request = 0
-
--- how many nodes a request may add
-abbrev pub needs_nodes : Request → ℕ
-needs_nodes (Retag at len kind guard prov) = 1
-needs_nodes request = 0
-
-abbrev pub is_copy_out : Request → Bool
-is_copy_out (CopyOut at len prov) = true
-is_copy_out request = false
+-- all that the request which is ready needs is there
+pub record IsReady (number : ℕ) (made : Option MadeValue) (ready : Ready) : Type 0 where
+  pub fresh : IsFreshFor ready.request ready.fresh
+  pub piece : HasBytesOut (made_in made) ready.request ready.piece
+  pub again : ready.again ≡ ready.piece
+  pub room : MatchOption made (Unit {0}) (λ v. IsPrepared number v ready.request)

@@ -1,12 +1,15 @@
 //! The log of one allocation.
 ghost use Rattle.std.specs.Prelude.{◌≡◌, ◌∷◌, ◌++◌, [], ◌<◌, All, IsTrue, OnOk, OnErr, Some, None, true, false};
+ghost use Rattle.std.specs.Option.{option_map};
 ghost use Rattle.history.specs.Objects.{answer, unmade};
+ghost use Rattle.lazy_tree.specs.Eager.{eager_of};
 ghost use Rattle.history.specs.Histories.{HasBytes, replay, fits, is_make, IsHistory};
 ghost use Rattle.alloc_state.specs.Log.{has_make};
 
 use crate::object_state::ObjectState;
 use bsan_ids::{AllocNo, ListOf, NoMemory, Stamp, ThreadNo};
 use history::{Entry, Logged, Request};
+use lazy_tree::LazyTree;
 use std::alloc::Global;
 use std::marker::Model;
 
@@ -82,7 +85,8 @@ impl AllocState {
         ensures appended { self.new ≡ record { number = self.old.number; entries = self.old.entries ++ result ∷ []; ready = None } }
     {
         let number = self.number;
-        let ran = self.state.run(&request, stamp);
+        let alloc = *self.entries.allocator();
+        let ran = self.state.run(alloc, &request, stamp);
         self.entries.push_reserved(Entry {
             thread,
             stamp,
@@ -114,6 +118,13 @@ impl AllocState {
         ensures { result ≡ has_make self.now.entries }
     {
         self.state.is_made()
+    }
+
+    /// The tree, which stands for that of the entries' replay, and `None` where the allocation isn't made.
+    pub fn tree(&self) -> Option<&LazyTree>
+        ensures { option_map (λ t. eager_of t.now) result ≡ option_map (λ m. m.tree) (replay (unmade self.now.number.0) self.now.entries).made }
+    {
+        self.state.tree()
     }
 
     /// The allocation's number.

@@ -7,13 +7,12 @@
 
 mod alloc_state;
 mod copies;
-mod kit;
 mod made_state;
-mod numbers;
 mod object_state;
-mod short_reply;
-mod steps;
+mod outcome;
+mod plain_mem;
 #[cfg(test)]
 mod tests;
+mod tree_steps;
 
 pub use alloc_state::AllocState;

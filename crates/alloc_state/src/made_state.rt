@@ -1,113 +1,118 @@
-//! A made allocation, with one call for each family of requests.
-ghost use Rattle.std.specs.Prelude.{IfOk, OnOk, OnErr, ◌≡◌, ◌+◌, ◌*◌, ◌≤◌, ◌<◌, ◌^◌, None, false, All, length};
-ghost use Rattle.std.specs.Result.{result_err};
-ghost use Rattle.eager_tree.specs.Tree.{with_root};
-ghost use Rattle.eager_tree.specs.Steps.{access as access_of, retag as retag_of, free_all as free_of};
-ghost use Rattle.ir_ast.specs.Sizes.{most_size};
-ghost use Rattle.ir_ast.specs.Words.{ty_bytes, modulus};
-ghost use Rattle.history.specs.declared.entry.Request.TheVariants.{Load as LoadRequest, Store as StoreRequest, Modify as ModifyRequest, CmpXchg as CmpXchgRequest, CopyOut as CopyOutRequest, CopyIn as CopyInRequest, Retag as RetagRequest, EndProtector as EndRequest, Free as FreeRequest};
-ghost use Rattle.history.specs.Objects.{answer, judged, judged_by, node_through, retag_judged, end_judged, reborrow};
-ghost use Rattle.history.specs.Memory.{trap_in, word_at, with_word, put};
-ghost use Rattle.history.specs.Fragments.{piece_at, stored_as};
-ghost use Rattle.alloc_state.specs.ShortReplies.{reply_of};
-ghost use Rattle.alloc_state.specs.MadeValues.{object_of, judged_of, new_made, copied_reply};
+//! A made allocation.
+ghost use Rattle.std.specs.Prelude.{IfOk, IfSome, OnOk, OnErr, ◌≡◌, ◌≤◌, ◌<◌, All, IsTrue, List, Some, None, false, length};
+ghost use Rattle.eager_tree.specs.Tree.{new_tree};
+ghost use Rattle.lazy_tree.specs.Eager.{eager_of};
+ghost use Rattle.history.specs.Pieces.{Byte};
+ghost use Rattle.history.specs.Objects.{answer, node_through};
+ghost use Rattle.history.specs.Histories.{fits, is_make};
+ghost use Rattle.history.specs.Memory.{trap_in};
+ghost use Rattle.history.specs.Fragments.{piece_at};
+ghost use Rattle.history.specs.declared.entry.Request.TheVariants.{CopyOut as CopyOutRequest};
+ghost use Rattle.alloc_state.specs.Outcomes.{reply_with, HasBytesOut};
+ghost use Rattle.alloc_state.specs.Asking.{asked, asked_reborrow, asks_on, asks_through, judged_as, MayAsk};
+ghost use Rattle.alloc_state.specs.Counted.{IsCounted, IsRoomTaken};
+ghost use Rattle.alloc_state.specs.MadeValues.{made_of, object_of, judged_of, IsPrepared, KeepsPrepared, IsStepCounted};
 
-use crate::copies::{piece_of, put_bytes, put_frags};
-use crate::numbers::width_of;
-use crate::short_reply::{ShortPlain, ShortReply};
+use crate::outcome::{Outcome, Seen};
+use crate::plain_mem::PlainMem;
+use crate::tree_steps::ask;
 use bsan_ids::{AllocNo, NoMemory, Prov, Span, Stamp, Tag};
-use byte_mem::ByteMem;
-use eager_tree::{EagerTree, Violation};
-use history::{Piece, Trap, Verdict};
-use ir_ast::{ModifyOp, Place, Ty, Width};
+use eager_tree::Violation;
+use history::{Piece, Request, Verdict};
+use lazy_access::TreeRequest;
+use lazy_tree::LazyTree;
 use perm_table::{Guard, Kind, RetagKind};
-use shadow_mem::ShadowMem;
 use std::alloc::Global;
 use std::marker::Model;
-use word_ops::modify;
 
-/// A made allocation, with the room that it has for further runs of fragments and for a node.
+/// A made allocation.
 ///
-/// Each family of requests answers as the allocation's object does. Plain memory comes first: a
-/// trap changes nothing. Whatever the tree then says, the data are read, written or freed. The first
-/// violation closes the tree, which judges nothing from then on.
+/// Plain memory comes first: a request that traps changes nothing. Whatever the tree then says, the
+/// data are read, written or freed. The first violation closes the tree, which judges nothing from then
+/// on.
 #[derive(Drop)]
 pub struct MadeState {
-    memory: ByteMem,
-    shadow: ShadowMem,
-    tree: EagerTree,
+    plain: PlainMem,
+    tree: LazyTree,
     closed: bool,
 }
 
 impl Model for MadeState {
-    ghost use Rattle.alloc_state.specs.MadeValues.{MadeValue, IsMade};
+    ghost use Rattle.std.specs.Prelude.{◌≡◌, length};
+    ghost use Rattle.alloc_state.specs.MadeValues.{MadeValue};
 
     ghost Value = { MadeValue };
 
-    ghost view = { λ s. record { made = record { memory = s.memory; shadow = s.shadow.frags; tree = s.tree.tree; closed = s.closed }; frag_room = s.shadow.spare; node_room = s.tree.spare } };
+    ghost view = { λ s. record { plain = s.plain; tree = s.tree; closed = s.closed } };
 
-    ghost invariant = { λ s. IsMade (record { memory = s.memory; shadow = s.shadow.frags; tree = s.tree.tree; closed = s.closed }) };
+    ghost invariant = { λ s. length s.plain.memory.bytes ≡ s.tree.size };
+}
+
+/// So many bytes from a place on.
+fn bytes(start: u32, len: u32) -> Span
+    ensures { result ≡ record { start = start; len = len } }
+{
+    Span { start, len }
 }
 
 impl MadeState {
-    /// An allocation of `size` bytes of 0, at least one and at most 1,048,576, with this tag at the
-    /// root of its tree.
+    /// An allocation with this memory, whose tree is its root alone. It takes no memory.
+    pub fn new(alloc: Global, plain: PlainMem, root: Tag) -> MadeState
+        requires { 1 ≤ length plain.memory.bytes }
+        ensures plain { result.plain ≡ plain }
+        ensures tree { eager_of result.tree ≡ new_tree (length plain.memory.bytes) root }
+        ensures closed { result.closed ≡ false }
+    {
+        let size = plain.size();
+        MadeState {
+            plain,
+            tree: LazyTree::new(alloc, root, size),
+            closed: false,
+        }
+    }
+
+    /// The tree.
+    pub fn tree(&self) -> &LazyTree
+        ensures { result.now ≡ self.now.tree }
+    {
+        &self.tree
+    }
+
+    /// The bytes from `at` on with their fragments, at most 32. They are none where a copy of them
+    /// traps.
     ///
     /// # Errors
     ///
     /// `NoMemory`: out of memory.
-    pub fn new(alloc: Global, size: u32, place: Place, root: Tag) -> Result<MadeState, NoMemory>
-        requires some { 1 ≤ size }
-        requires bound { size ≤ most_size }
-        ensures { IfOk result (λ state. state.made ≡ new_made size place root) }
+    pub fn piece(&self, alloc: Global, at: u32, len: u8) -> Result<Piece, NoMemory>
+        requires few { len ≤ 32 }
+        ensures { IfOk result (λ piece. trap_in (made_of self.now).memory (CopyOutRequest at len None) ≡ None → piece ≡ piece_at (made_of self.now).memory (made_of self.now).shadow at len) }
     {
-        Ok(MadeState {
-            memory: ByteMem::new(alloc, size, place)?,
-            shadow: ShadowMem::new(alloc, size)?,
-            tree: EagerTree::new(alloc, root, size)?,
-            closed: false,
-        })
+        self.plain.piece(alloc, at, len)
     }
 
-    /// Gives the root, where it is the tree's only node, another tag.
-    pub fn set_root(&mut self, root: Tag)
-        requires alone { length self.old.made.tree.nodes ≡ 1 }
-        ensures { self.new ≡ record self.old { made = record self.old.made { tree = with_root root self.old.made.tree } } }
-    {
-        self.tree.set_root(root);
-    }
-
-    /// Makes room for so many more runs of fragments.
+    /// Takes all memory that `step` needs for a request.
     ///
     /// # Errors
     ///
-    /// `NoMemory`: out of memory. The allocation stays as it was.
-    pub fn reserve_frags(&mut self, runs: u32) -> Result<(), NoMemory>
-        ensures room { OnOk result (runs ≤ self.new.frag_room) }
-        ensures made { self.new.made ≡ self.old.made }
-        ensures frag_room { self.old.frag_room ≤ self.new.frag_room }
-        ensures node_room { self.old.node_room ≤ self.new.node_room }
+    /// `NoMemory`: out of memory. The allocation is as before, and what was prepared stays so.
+    pub fn prepare(&mut self, number: AllocNo, request: &Request) -> Result<(), NoMemory>
+        requires { IsTrue (fits request.now) }
+        ensures ok { OnOk result (IsPrepared number.0 self.new request.now) }
+        ensures err { OnErr result (KeepsPrepared number.0 self.old self.new) }
+        ensures made { made_of self.new ≡ made_of self.old }
+        ensures taken { IsRoomTaken self.old.tree self.new.tree (asked number.0 (made_of self.old) request.now) }
     {
-        self.shadow.reserve(runs)
+        self.plain.reserve(request)?;
+        match self.asks(number, request) {
+            Ok(asks) => lazy_access::prepare(&mut self.tree, &asks),
+            Err(_) => Ok(()),
+        }
     }
 
-    /// Makes room for one node.
-    ///
-    /// # Errors
-    ///
-    /// `NoMemory`: out of memory. The allocation stays as it was.
-    pub fn reserve_node(&mut self) -> Result<(), NoMemory>
-        ensures room { OnOk result (1 ≤ self.new.node_room) }
-        ensures made { self.new.made ≡ self.old.made }
-        ensures frag_room { self.old.frag_room ≤ self.new.frag_room }
-        ensures node_room { self.old.node_room ≤ self.new.node_room }
-    {
-        self.tree.reserve_node()
-    }
-
-    // The node through which a provenance may use this allocation.
+    // The node through which a provenance may use this allocation. Without one it is a stranger's.
     fn node(&self, number: AllocNo, prov: Option<Prov>) -> Option<Tag>
-        ensures { result ≡ node_through number.0 self.now.made.tree prov }
+        ensures { result ≡ node_through number.0 (eager_of self.now.tree) prov }
     {
         match prov {
             Some(prov) if prov.alloc == number && self.tree.has(prov.tag) => Some(prov.tag),
@@ -115,437 +120,178 @@ impl MadeState {
         }
     }
 
-    // The verdict on a step that was denied or not. A violation closes the tree.
-    fn judge(&mut self, denial: Option<Violation>) -> Verdict
-        requires judging { self.old.made.closed ≡ false }
-        ensures judged { judged_of result self.new.made ≡ judged_by (denial, self.old.made.tree) }
-        ensures memory { self.new.made.memory ≡ self.old.made.memory }
-        ensures shadow { self.new.made.shadow ≡ self.old.made.shadow }
-        ensures frag_room { self.new.frag_room ≡ self.old.frag_room }
-        ensures node_room { self.new.node_room ≡ self.old.node_room }
-    {
-        match denial {
-            None => Verdict::Clean,
-            Some(violation) => {
-                self.closed = true;
-                Verdict::Violated(violation)
-            }
-        }
-    }
-
-    // An access through a provenance to bytes of the allocation.
-    fn touch(&mut self, number: AllocNo, prov: Option<Prov>, span: Span, kind: Kind) -> Verdict
-        requires some { 1 ≤ span.len }
-        requires within { span.start + span.len ≤ self.old.made.tree.size }
-        ensures judged { judged_of result self.new.made ≡ judged number.0 self.old.made prov (λ x. access_of self.old.made.tree x span kind) }
-        ensures size { self.new.made.tree.size ≡ self.old.made.tree.size }
-        ensures memory { self.new.made.memory ≡ self.old.made.memory }
-        ensures shadow { self.new.made.shadow ≡ self.old.made.shadow }
-        ensures frag_room { self.new.frag_room ≡ self.old.frag_room }
-        ensures node_room { self.new.node_room ≡ self.old.node_room }
-    {
-        if self.closed {
-            return Verdict::Closed;
-        }
-        let denial = match self.node(number, prov) {
-            None => Some(Violation::Stranger),
-            Some(tag) => self.tree.access(tag, span, kind),
-        };
-        self.judge(denial)
-    }
-
-    // The number in memory for a value of this type.
-    fn read(&self, at: u32, ty: Ty) -> Result<u64, Trap>
-        ensures trap { result_err result ≡ trap_in self.now.made.memory (LoadRequest at ty None) }
-        ensures value { IfOk result (λ word. word ≡ word_at self.now.made.memory at (ty_bytes ty)) }
-        ensures bound { IfOk result (λ word. word < 2 ^ (8 * ty_bytes ty)) }
-        ensures within { OnOk result (at + ty_bytes ty ≤ self.now.made.tree.size) }
-    {
-        self.memory.load(at, width_of(ty))
-    }
-
-    // Puts a number and the fragments of its type into memory.
-    fn write(&mut self, at: u32, ty: Ty, value: u64, carried: Option<Prov>) -> Result<(), Trap>
-        requires room { 2 ≤ self.old.frag_room }
-        ensures trap { result_err result ≡ trap_in self.old.made.memory (LoadRequest at ty None) }
-        ensures memory { OnOk result (self.new.made.memory ≡ with_word self.old.made.memory at (ty_bytes ty) value) }
-        ensures shadow { OnOk result (self.new.made.shadow ≡ put at (stored_as ty carried) self.old.made.shadow) }
-        ensures within { OnOk result (at + ty_bytes ty ≤ self.old.made.tree.size) }
-        ensures err { OnErr result (self.new ≡ self.old) }
-        ensures tree { self.new.made.tree ≡ self.old.made.tree }
-        ensures closed { self.new.made.closed ≡ self.old.made.closed }
-        ensures node_room { self.new.node_room ≡ self.old.node_room }
-    {
-        self.memory.store(at, width_of(ty), value)?;
-        let span = Span {
-            start: at,
-            len: ty.bytes(),
-        };
-        match ty {
-            Ty::Int(_) => self.shadow.clear(span),
-            Ty::Ptr => self.shadow.store_ptr(at, carried),
-        }
-        Ok(())
-    }
-
-    /// Reads a value, and a pointer's provenance with it.
-    pub fn load(
-        &mut self,
+    // An access through a provenance, as the tree is asked for it.
+    fn access(
+        &self,
         number: AllocNo,
-        at: u32,
-        ty: Ty,
         prov: Option<Prov>,
-        stamp: Stamp,
-    ) -> ShortReply
-        ensures { record { reply = reply_of result; object = object_of number.0 self.new } ≡ answer (object_of number.0 self.old) (LoadRequest at ty prov) stamp }
+        span: Span,
+        kind: Kind,
+    ) -> Result<TreeRequest, Verdict>
+        ensures { result ≡ asks_through (node_through number.0 (eager_of self.now.tree) prov) (asks_on (Some span) kind) }
     {
-        let value = match self.read(at, ty) {
-            Ok(value) => value,
-            Err(trap) => return ShortReply::trapped(trap),
-        };
-        let carried = match ty {
-            Ty::Int(_) => None,
-            Ty::Ptr => self.shadow.load_ptr(at),
-        };
-        let span = Span {
-            start: at,
-            len: ty.bytes(),
-        };
-        let verdict = self.touch(number, prov, span, Kind::Read);
-        ShortReply {
-            plain: ShortPlain::Value(value),
-            carried,
-            verdict,
+        match self.node(number, prov) {
+            Some(tag) => Ok(TreeRequest::Access { tag, span, kind }),
+            None => Err(Verdict::Violated(Violation::Stranger)),
         }
     }
 
-    /// Writes a value, and the provenance of a pointer with it.
-    pub fn store(
-        &mut self,
+    // A reborrow through a provenance, as the tree is asked for it.
+    fn reborrow(
+        &self,
         number: AllocNo,
-        at: u32,
-        ty: Ty,
-        value: u64,
-        carried: Option<Prov>,
         prov: Option<Prov>,
-        stamp: Stamp,
-    ) -> ShortReply
-        requires room { 2 ≤ self.old.frag_room }
-        ensures { record { reply = reply_of result; object = object_of number.0 self.new } ≡ answer (object_of number.0 self.old) (StoreRequest at ty value carried prov) stamp }
-    {
-        if let Err(trap) = self.write(at, ty, value, carried) {
-            return ShortReply::trapped(trap);
-        }
-        let span = Span {
-            start: at,
-            len: ty.bytes(),
-        };
-        let verdict = self.touch(number, prov, span, Kind::Write);
-        ShortReply {
-            plain: ShortPlain::Done,
-            carried: None,
-            verdict,
-        }
-    }
-
-    /// Reads a number and writes what an operation makes of it and `value`.
-    pub fn modify(
-        &mut self,
-        number: AllocNo,
-        at: u32,
-        width: Width,
-        op: ModifyOp,
-        value: u64,
-        prov: Option<Prov>,
-        stamp: Stamp,
-    ) -> ShortReply
-        requires room { 2 ≤ self.old.frag_room }
-        requires fits { value < modulus width }
-        ensures { record { reply = reply_of result; object = object_of number.0 self.new } ≡ answer (object_of number.0 self.old) (ModifyRequest at width op value prov) stamp }
-    {
-        let ty = Ty::Int(width);
-        let old = match self.read(at, ty) {
-            Ok(old) => old,
-            Err(trap) => return ShortReply::trapped(trap),
-        };
-        if let Err(_) = self.write(at, ty, modify(op, width, old, value), None) {
-            unreachable!()
-        }
-        let span = Span {
-            start: at,
-            len: ty.bytes(),
-        };
-        let verdict = self.touch(number, prov, span, Kind::Write);
-        ShortReply {
-            plain: ShortPlain::Value(old),
-            carried: None,
-            verdict,
-        }
-    }
-
-    /// Reads a number and, where it is `expected`, writes `value`.
-    pub fn cmp_xchg(
-        &mut self,
-        number: AllocNo,
-        at: u32,
-        width: Width,
-        expected: u64,
-        value: u64,
-        prov: Option<Prov>,
-        stamp: Stamp,
-    ) -> ShortReply
-        requires room { 2 ≤ self.old.frag_room }
-        ensures { record { reply = reply_of result; object = object_of number.0 self.new } ≡ answer (object_of number.0 self.old) (CmpXchgRequest at width expected value prov) stamp }
-    {
-        let ty = Ty::Int(width);
-        let old = match self.read(at, ty) {
-            Ok(old) => old,
-            Err(trap) => return ShortReply::trapped(trap),
-        };
-        if old == expected {
-            if let Err(_) = self.write(at, ty, value, None) {
-                unreachable!()
-            }
-        }
-        let span = Span {
-            start: at,
-            len: ty.bytes(),
-        };
-        let verdict = self.touch(number, prov, span, Kind::Write);
-        ShortReply {
-            plain: ShortPlain::Value(old),
-            carried: None,
-            verdict,
-        }
-    }
-
-    /// Whether an access to these bytes traps.
-    pub fn check(&self, span: Span) -> Result<(), Trap>
-        ensures { result_err result ≡ trap_in self.now.made.memory (CopyOutRequest span.start span.len None) }
-    {
-        self.memory.check(span)
-    }
-
-    /// The bytes from `at` on with their fragments, at most 32 and in a live allocation, as `check`
-    /// tells.
-    ///
-    /// # Errors
-    ///
-    /// `NoMemory`: out of memory.
-    #[tactic(auto, using(crate::proofs::ByteCopies::untrapped))]
-    pub fn piece(&self, alloc: Global, at: u32, len: u8) -> Result<Piece, NoMemory>
-        requires few { len ≤ 32 }
-        requires checked { trap_in self.now.made.memory (CopyOutRequest at len None) ≡ None }
-        ensures { IfOk result (λ piece. piece ≡ piece_at self.now.made.memory self.now.made.shadow at len) }
-    {
-        piece_of(alloc, &self.memory, &self.shadow, at, len)
-    }
-
-    /// Reads bytes with their fragments, which `piece` answers before it.
-    pub fn copy_out(
-        &mut self,
-        number: AllocNo,
-        at: u32,
-        len: u8,
-        prov: Option<Prov>,
-        stamp: Stamp,
-    ) -> Result<Verdict, Trap>
-        requires some { 1 ≤ len }
-        ensures trap { result_err result ≡ trap_in self.old.made.memory (CopyOutRequest at len None) }
-        ensures answer { record { reply = copied_reply result (piece_at self.old.made.memory self.old.made.shadow at len); object = object_of number.0 self.new } ≡ answer (object_of number.0 self.old) (CopyOutRequest at len prov) stamp }
-    {
-        let span = Span {
-            start: at,
-            len: u32::from(len),
-        };
-        self.memory.check(span)?;
-        Ok(self.touch(number, prov, span, Kind::Read))
-    }
-
-    /// Writes the bytes of a piece, at least one, with their fragments.
-    #[tactic(auto, using(crate::proofs::ByteCopies::untrapped))]
-    pub fn copy_in(
-        &mut self,
-        number: AllocNo,
-        at: u32,
-        piece: &Piece,
-        prov: Option<Prov>,
-        stamp: Stamp,
-    ) -> ShortReply
-        requires some { 1 ≤ length piece.now }
-        requires few { length piece.now ≤ 32 }
-        requires room { 2 * length piece.now ≤ self.old.frag_room }
-        ensures { record { reply = reply_of result; object = object_of number.0 self.new } ≡ answer (object_of number.0 self.old) (CopyInRequest at piece.now prov) stamp }
-    {
-        let span = Span {
-            start: at,
-            len: piece.len() as u32,
-        };
-        if let Err(trap) = self.memory.check(span) {
-            return ShortReply::trapped(trap);
-        }
-        put_bytes(&mut self.memory, at, piece);
-        put_frags(&mut self.shadow, at, piece);
-        let verdict = self.touch(number, prov, span, Kind::Write);
-        ShortReply {
-            plain: ShortPlain::Done,
-            carried: None,
-            verdict,
-        }
-    }
-
-    // The verdict on a free, of bytes that may be live or freed.
-    fn release(&mut self, number: AllocNo, prov: Option<Prov>) -> Verdict
-        ensures judged { judged_of result self.new.made ≡ judged number.0 self.old.made prov (λ x. free_of self.old.made.tree x) }
-        ensures memory { self.new.made.memory ≡ self.old.made.memory }
-        ensures shadow { self.new.made.shadow ≡ self.old.made.shadow }
-    {
-        if self.closed {
-            return Verdict::Closed;
-        }
-        let denial = match self.node(number, prov) {
-            None => Some(Violation::Stranger),
-            Some(tag) => self.tree.free_all(tag),
-        };
-        self.judge(denial)
-    }
-
-    /// Frees the allocation. `stack` says that its function returns, and no instruction frees it.
-    pub fn free(
-        &mut self,
-        number: AllocNo,
-        at: u32,
-        stack: bool,
-        prov: Option<Prov>,
-        stamp: Stamp,
-    ) -> ShortReply
-        ensures { record { reply = reply_of result; object = object_of number.0 self.new } ≡ answer (object_of number.0 self.old) (FreeRequest at stack prov) stamp }
-    {
-        if let Err(trap) = self.memory.free(at, stack) {
-            return ShortReply::trapped(trap);
-        }
-        let verdict = self.release(number, prov);
-        ShortReply {
-            plain: ShortPlain::Done,
-            carried: None,
-            verdict,
-        }
-    }
-
-    // The verdict on the end of a protector.
-    fn unguard(&mut self, tag: Tag) -> Verdict
-        ensures judged { judged_of result self.new.made ≡ end_judged self.old.made tag }
-        ensures memory { self.new.made.memory ≡ self.old.made.memory }
-        ensures shadow { self.new.made.shadow ≡ self.old.made.shadow }
-    {
-        if self.closed {
-            return Verdict::Closed;
-        }
-        if !self.memory.is_live() || !self.tree.has(tag) {
-            return Verdict::Clean;
-        }
-        let denial = self.tree.end_protector(tag);
-        self.judge(denial)
-    }
-
-    /// Ends the protector of the node with this tag.
-    pub fn end_protector(&mut self, number: AllocNo, tag: Tag, stamp: Stamp) -> ShortReply
-        ensures { record { reply = reply_of result; object = object_of number.0 self.new } ≡ answer (object_of number.0 self.old) (EndRequest tag) stamp }
-    {
-        let verdict = self.unguard(tag);
-        ShortReply {
-            plain: ShortPlain::Done,
-            carried: None,
-            verdict,
-        }
-    }
-
-    // A retag through a provenance, of bytes of a live allocation.
-    fn graft(
-        &mut self,
-        number: AllocNo,
         span: Span,
         kind: RetagKind,
         guard: Guard,
-        prov: Option<Prov>,
-        tag: Tag,
-    ) -> Verdict
-        requires room { 1 ≤ self.old.node_room }
-        requires some { 1 ≤ span.len }
-        requires within { span.start + span.len ≤ self.old.made.tree.size }
-        requires newest { All (λ n. n.tag.0 < tag.0) self.old.made.tree.nodes }
-        ensures judged { judged_of result self.new.made ≡ judged number.0 self.old.made prov (λ x. retag_of self.old.made.tree x span kind guard tag) }
-        ensures memory { self.new.made.memory ≡ self.old.made.memory }
-        ensures shadow { self.new.made.shadow ≡ self.old.made.shadow }
+    ) -> Result<TreeRequest, Verdict>
+        ensures { result ≡ asked_reborrow number.0 (made_of self.now) (record { span = span; kind = kind; guard = guard; prov = prov }) }
     {
-        if self.closed {
-            return Verdict::Closed;
+        if !self.plain.is_live() {
+            return Err(Verdict::Violated(Violation::Freed));
         }
-        let denial = match self.node(number, prov) {
-            None => Some(Violation::Stranger),
-            Some(parent) => self.tree.retag_reserved(parent, span, kind, guard, tag),
-        };
-        self.judge(denial)
-    }
-
-    // The verdict on a retag, with the new node where it is clean.
-    fn grow(
-        &mut self,
-        number: AllocNo,
-        span: Span,
-        kind: RetagKind,
-        guard: Guard,
-        prov: Option<Prov>,
-        tag: Tag,
-    ) -> Verdict
-        requires room { 1 ≤ self.old.node_room }
-        requires some { 1 ≤ span.len }
-        requires newest { All (λ n. n.tag.0 < tag.0) self.old.made.tree.nodes }
-        ensures judged { judged_of result self.new.made ≡ retag_judged number.0 self.old.made (reborrow span.start span.len kind guard prov) tag.0 }
-        ensures memory { self.new.made.memory ≡ self.old.made.memory }
-        ensures shadow { self.new.made.shadow ≡ self.old.made.shadow }
-    {
-        if self.closed {
-            return Verdict::Closed;
-        }
-        if !self.memory.is_live() {
-            return self.judge(Some(Violation::Freed));
-        }
-        let size = self.memory.size();
+        let size = self.plain.size();
         if span.start > size || span.len > size - span.start {
-            return self.judge(Some(Violation::OutOfRange));
+            return Err(Verdict::Violated(Violation::OutOfRange));
         }
-        self.graft(number, span, kind, guard, prov, tag)
+        match self.node(number, prov) {
+            Some(parent) => Ok(TreeRequest::Retag {
+                parent,
+                span,
+                kind,
+                guard,
+            }),
+            None => Err(Verdict::Violated(Violation::Stranger)),
+        }
     }
 
-    /// Reborrows bytes, at least one: the tag of the new node, where there is one, is the stamp,
-    /// which is greater than each tag of the tree.
-    pub fn retag(
-        &mut self,
-        number: AllocNo,
-        span: Span,
-        kind: RetagKind,
-        guard: Guard,
-        prov: Option<Prov>,
-        stamp: Stamp,
-    ) -> ShortReply
-        requires room { 1 ≤ self.old.node_room }
-        requires some { 1 ≤ span.len }
-        requires newest { All (λ n. n.tag.0 < stamp.0) self.old.made.tree.nodes }
-        ensures { record { reply = reply_of result; object = object_of number.0 self.new } ≡ answer (object_of number.0 self.old) (RetagRequest span.start span.len kind guard prov) stamp }
+    // The free of the allocation through a provenance, as the tree is asked for it.
+    fn free(&self, number: AllocNo, prov: Option<Prov>) -> Result<TreeRequest, Verdict>
+        ensures { result ≡ asks_through (node_through number.0 (eager_of self.now.tree) prov) (asks_on None Kind.Write) }
     {
-        let tag = Tag(stamp.0);
-        let verdict = self.grow(number, span, kind, guard, prov, tag);
-        match verdict {
-            Verdict::Clean => ShortReply {
-                plain: ShortPlain::Retagged { added: true },
-                carried: Some(Prov { alloc: number, tag }),
-                verdict,
+        match self.node(number, prov) {
+            Some(tag) => Ok(TreeRequest::FreeAll { tag }),
+            None => Err(Verdict::Violated(Violation::Stranger)),
+        }
+    }
+
+    // What a request asks the tree, or the verdict on it where the tree isn't asked.
+    fn asks(&self, number: AllocNo, request: &Request) -> Result<TreeRequest, Verdict>
+        ensures asks { result ≡ asked number.0 (made_of self.now) request.now }
+        ensures size { length self.now.plain.memory.bytes ≡ self.now.tree.size }
+    {
+        if self.closed {
+            return Err(Verdict::Closed);
+        }
+        match request {
+            Request::Retag {
+                at,
+                len,
+                kind,
+                guard,
+                prov,
+            } => self.reborrow(number, *prov, bytes(*at, *len), *kind, *guard),
+            Request::EndProtector { tag } => {
+                if self.plain.is_live() && self.tree.has(*tag) {
+                    Ok(TreeRequest::EndProtector { tag: *tag })
+                } else {
+                    Err(Verdict::Clean)
+                }
+            }
+            Request::Load { at, ty, prov } => {
+                self.access(number, *prov, bytes(*at, ty.bytes()), Kind::Read)
+            }
+            Request::Store { at, ty, prov, .. } => {
+                self.access(number, *prov, bytes(*at, ty.bytes()), Kind::Write)
+            }
+            Request::Modify {
+                at,
+                width,
+                prov,
+                ..
+            }
+            | Request::CmpXchg {
+                at,
+                width,
+                prov,
+                ..
+            } => self.access(number, *prov, bytes(*at, width.bytes()), Kind::Write),
+            Request::CopyOut { at, len, prov } => {
+                self.access(number, *prov, bytes(*at, u32::from(*len)), Kind::Read)
+            }
+            Request::CopyIn { at, piece, prov } => {
+                self.access(number, *prov, bytes(*at, piece.len() as u32), Kind::Write)
+            }
+            Request::Free { prov, .. } => self.free(number, *prov),
+            Request::Make { .. }
+            | Request::Print { .. }
+            | Request::Host { .. }
+            | Request::Spawn { .. }
+            | Request::Join { .. } => Err(Verdict::Violated(Violation::Stranger)),
+        }
+    }
+
+    // The verdict on what was asked of the tree, or settled without it. A violation closes the tree.
+    fn judge(&mut self, asks: Result<TreeRequest, Verdict>, new: Tag) -> Verdict
+        requires { IfOk asks (MayAsk self.old.tree new) }
+        ensures judged { judged_of result self.new ≡ judged_as (eager_of self.old.tree) asks new }
+        ensures plain { self.new.plain ≡ self.old.plain }
+        ensures counted { IsCounted self.old.tree self.new.tree asks result }
+    {
+        let verdict = match asks {
+            Err(verdict) => verdict,
+            Ok(request) => match ask(&mut self.tree, request, new) {
+                None => Verdict::Clean,
+                Some(violation) => Verdict::Violated(violation),
             },
-            _ => ShortReply {
-                plain: ShortPlain::Retagged { added: false },
-                carried: prov,
-                verdict,
+        };
+        self.closed = !matches!(verdict, Verdict::Clean);
+        verdict
+    }
+
+    /// Answers a request other than a Make, after `prepare` for it. The tag of a new node is the stamp,
+    /// which is greater than each tag of the tree. It takes no memory.
+    pub fn step(&mut self, number: AllocNo, request: &Request, stamp: Stamp) -> Outcome
+        requires make { is_make request.now ≡ false }
+        requires fitting { IsTrue (fits request.now) }
+        requires prepared { IsPrepared number.0 self.old request.now }
+        requires newest { All (λ n. n.tag.0 < stamp.0) (eager_of self.old.tree).nodes }
+        ensures answer { (piece : List Byte) → HasBytesOut (Some (made_of self.old)) request.now piece → record { reply = reply_with piece result; object = object_of number.0 self.new } ≡ answer (object_of number.0 self.old) request.now stamp }
+        ensures counted { IsStepCounted number.0 self.old self.new request.now result.verdict }
+    {
+        let new = Tag(stamp.0);
+        let asks = self.asks(number, request);
+        match request {
+            Request::Retag { prov, .. } => {
+                let verdict = self.judge(asks, new);
+                match verdict {
+                    Verdict::Clean => Outcome {
+                        seen: Seen::Retagged { added: true },
+                        carried: Some(Prov {
+                            alloc: number,
+                            tag: new,
+                        }),
+                        verdict,
+                    },
+                    _ => Outcome {
+                        seen: Seen::Retagged { added: false },
+                        carried: *prov,
+                        verdict,
+                    },
+                }
+            }
+            Request::EndProtector { .. } => Outcome {
+                seen: Seen::Done,
+                carried: None,
+                verdict: self.judge(asks, new),
+            },
+            _ => match self.plain.run(request) {
+                Err(trap) => Outcome::clean(Seen::Trapped(trap)),
+                Ok((seen, carried)) => Outcome {
+                    seen,
+                    carried,
+                    verdict: self.judge(asks, new),
+                },
             },
         }
     }

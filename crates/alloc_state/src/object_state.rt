@@ -1,38 +1,52 @@
 //! The object of one allocation, with the memory that the next request needs.
-ghost use Rattle.std.specs.Prelude.{◌≡◌, IsTrue, None, OnErr, OnOk, Some};
+ghost use Rattle.std.specs.Prelude.{◌≡◌, IfOk, IsTrue, List, MatchOption, None, OnErr, OnOk, Some};
+ghost use Rattle.std.specs.Option.{option_map};
 ghost use Rattle.history.specs.Objects.{answer, unmade};
 ghost use Rattle.history.specs.Histories.{fits};
-ghost use Rattle.alloc_state.specs.ShortReplies.{reply_of};
-ghost use Rattle.alloc_state.specs.Prepared.{AreBelow, is_made_in};
+ghost use Rattle.lazy_tree.specs.Eager.{eager_of};
+ghost use Rattle.history.specs.Pieces.{Byte};
+ghost use Rattle.alloc_state.specs.MadeValues.{made_in, object_in, IsPrepared};
+ghost use Rattle.alloc_state.specs.Outcomes.{reply_with, HasBytesOut};
+ghost use Rattle.alloc_state.specs.Prepared.{AreBelow, IsFreshFor, is_made_in};
 
-use crate::kit::{Kit, kit_for};
 use crate::made_state::MadeState;
-use crate::steps::{reserve_for, step_twice};
-use bsan_ids::{AllocNo, Copied, NoMemory, Stamp};
-use history::{Reply, Request};
+use crate::outcome::{Outcome, Seen};
+use crate::plain_mem::PlainMem;
+use bsan_ids::{AllocNo, Copied, NoMemory, Prov, Stamp, Tag};
+use history::{Piece, Reply, Request, Verdict};
+use lazy_tree::LazyTree;
 use std::alloc::Global;
 use std::marker::Model;
+
+/// The request for which memory was taken: a copy of it, the memory of the allocation that it makes, and
+/// the bytes that it copies out, twice.
+#[derive(Drop)]
+pub struct Ready {
+    request: Request,
+    fresh: Option<PlainMem>,
+    piece: Piece,
+    again: Piece,
+}
 
 /// The object of one allocation, with the memory that the next request needs.
 #[derive(Drop)]
 pub struct ObjectState {
     number: AllocNo,
     made: Option<MadeState>,
-    kit: Kit,
-    ready: Option<Request>,
+    ready: Option<Ready>,
 }
 
 impl Model for ObjectState {
     ghost use Rattle.std.specs.Prelude.{MatchOption};
-    ghost use Rattle.alloc_state.specs.Prepared.{Prepared, object_in};
+    ghost use Rattle.std.specs.Option.{option_map};
+    ghost use Rattle.alloc_state.specs.MadeValues.{object_in};
+    ghost use Rattle.alloc_state.specs.Prepared.{Prepared, IsReady};
 
     ghost Value = { Prepared };
 
-    ghost use Rattle.alloc_state.specs.Kits.{HasRoom};
+    ghost view = { λ s. record { object = object_in s.number.0 s.made; tree = option_map (λ v. v.tree) s.made; ready = option_map (λ r. r.request) s.ready } };
 
-    ghost view = { λ s. record { object = object_in s.number.0 s.made; ready = s.ready } };
-
-    ghost invariant = { λ s. MatchOption s.ready (Unit {0}) (HasRoom s.kit s.made) };
+    ghost invariant = { λ s. MatchOption s.ready (Unit {0}) (IsReady s.number.0 s.made) };
 }
 
 /// What a request that ran leaves: the stored copy of it, and its reply twice.
@@ -43,15 +57,66 @@ pub struct Ran {
     pub again: Reply,
 }
 
+/// The memory of the allocation that a request makes, if it makes one.
+fn fresh_for(alloc: Global, request: &Request) -> Result<Option<PlainMem>, NoMemory>
+    requires { IsTrue (fits request.now) }
+    ensures { IfOk result (IsFreshFor request.now) }
+{
+    match request {
+        Request::Make { size, place } => Ok(Some(PlainMem::new(alloc, *size, *place)?)),
+        _ => Ok(None),
+    }
+}
+
+/// The bytes that a request copies out, where it does and isn't refused.
+fn piece_for(alloc: Global, made: &Option<MadeState>, request: &Request) -> Result<Piece, NoMemory>
+    requires { IsTrue (fits request.now) }
+    ensures { IfOk result (HasBytesOut (made_in made.now) request.now) }
+{
+    match (made, request) {
+        (Some(made), Request::CopyOut { at, len, .. }) => made.piece(alloc, *at, *len),
+        _ => Ok(Piece::new(alloc)),
+    }
+}
+
+/// Answers a request with the memory that was made for it. A Make's tag is its stamp.
+fn outcome_of(
+    number: AllocNo,
+    alloc: Global,
+    made: &mut Option<MadeState>,
+    fresh: Option<PlainMem>,
+    request: &Request,
+    stamp: Stamp,
+) -> Outcome
+    requires fresh { IsFreshFor request.now fresh }
+    requires room { MatchOption made.old (Unit {0}) (λ v. IsPrepared number.0 v request.now) }
+    requires newest { AreBelow stamp.0 (object_in number.0 made.old) }
+    requires fitting { IsTrue (fits request.now) }
+    ensures { (piece : List Byte) → HasBytesOut (made_in made.old) request.now piece → record { reply = reply_with piece result; object = object_in number.0 made.new } ≡ answer (object_in number.0 made.old) request.now stamp }
+{
+    if let Some(fresh) = fresh {
+        let tag = Tag(stamp.0);
+        *made = Some(MadeState::new(alloc, fresh, tag));
+        return Outcome {
+            seen: Seen::Made(number),
+            carried: Some(Prov { alloc: number, tag }),
+            verdict: Verdict::Clean,
+        };
+    }
+    match made {
+        Some(made) => made.step(number, request, stamp),
+        None => Outcome::unmade(request),
+    }
+}
+
 impl ObjectState {
     /// A number that was never made.
     pub fn new(number: AllocNo) -> ObjectState
-        ensures { result ≡ record { object = unmade number.0; ready = None } }
+        ensures { result ≡ record { object = unmade number.0; tree = None; ready = None } }
     {
         ObjectState {
             number,
             made: None,
-            kit: Kit::Nothing,
             ready: None,
         }
     }
@@ -63,40 +128,69 @@ impl ObjectState {
         self.made.is_some()
     }
 
+    /// The tree, where the allocation is made.
+    pub fn tree(&self) -> Option<&LazyTree>
+        ensures tree { option_map (λ t. t.now) result ≡ self.now.tree }
+        ensures eager { option_map eager_of self.now.tree ≡ option_map (λ m. m.tree) self.now.object.made }
+    {
+        match &self.made {
+            Some(made) => Some(made.tree()),
+            None => None,
+        }
+    }
+
     /// Takes all memory that `run` needs for this request.
-    #[tactic(auto, using(crate::proofs::Rooms::has_room))]
+    ///
+    /// # Errors
+    ///
+    /// `NoMemory`: out of memory. The object and a request that is ready stay.
     pub fn prepare(&mut self, alloc: Global, request: &Request) -> Result<(), NoMemory>
         requires { IsTrue (fits request.now) }
-        ensures ok { OnOk result (self.new ≡ record self.old { ready = Some request.now }) }
-        ensures err { OnErr result (self.new ≡ self.old) }
+        ensures ok { OnOk result (self.new.ready ≡ Some request.now) }
+        ensures err { OnErr result (self.new.ready ≡ self.old.ready) }
+        ensures object { self.new.object ≡ self.old.object }
     {
         let copy = request.copy()?;
-        let kit = kit_for(alloc, &self.made, request)?;
-        reserve_for(&mut self.made, request)?;
-        self.kit = kit;
-        self.ready = Some(copy);
+        let fresh = fresh_for(alloc, request)?;
+        let piece = piece_for(alloc, &self.made, request)?;
+        let again = piece.copy()?;
+        if let Some(made) = &mut self.made {
+            made.prepare(self.number, request)?;
+        }
+        self.ready = Some(Ready {
+            request: copy,
+            fresh,
+            piece,
+            again,
+        });
         Ok(())
     }
 
-    /// Answers the request that is ready.
-    pub fn run(&mut self, request: &Request, stamp: Stamp) -> Ran
+    /// Answers the request that is ready. It takes no memory.
+    pub fn run(&mut self, alloc: Global, request: &Request, stamp: Stamp) -> Ran
         requires ready { self.old.ready ≡ Some request.now }
         requires newest { AreBelow stamp.0 self.old.object }
         requires fitting { IsTrue (fits request.now) }
         ensures request { result.request ≡ request.now }
         ensures reply { result.reply ≡ (answer self.old.object request.now stamp).reply }
         ensures again { result.again ≡ result.reply }
-        ensures state { self.new ≡ record { object = (answer self.old.object request.now stamp).object; ready = None } }
+        ensures object { self.new.object ≡ (answer self.old.object request.now stamp).object }
+        ensures ready { self.new.ready ≡ None }
     {
-        let Some(copy) = self.ready.take() else {
+        let Some(ready) = self.ready.take() else {
             unreachable!()
         };
-        let kit = std::mem::replace(&mut self.kit, Kit::Nothing);
-        let (reply, again) = step_twice(self.number, &mut self.made, kit, request, stamp);
+        let Ready {
+            request: copy,
+            fresh,
+            piece,
+            again,
+        } = ready;
+        let outcome = outcome_of(self.number, alloc, &mut self.made, fresh, request, stamp);
         Ran {
             request: copy,
-            reply,
-            again,
+            reply: outcome.reply(piece),
+            again: outcome.reply(again),
         }
     }
 }

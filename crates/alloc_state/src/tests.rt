@@ -1,3 +1,4 @@
+//! Allocations whose replies are worked out by hand, one table for each.
 ghost use Rattle.std.specs.Prelude.{◌≡◌, ◌<◌, ◌*◌, ◌^◌, All, IsTrue, nat_lt, true, false};
 ghost use Rattle.ir_ast.specs.Tokens.{Each};
 ghost use Rattle.ir_ast.specs.Words.{ty_bytes};
@@ -5,13 +6,44 @@ ghost use Rattle.history.specs.Histories.{fits, is_make, HasBytes};
 ghost use Rattle.alloc_state.specs.Log.{has_make};
 
 use super::AllocState;
+use crate::outcome::{Outcome, Seen};
 use bsan_ids::{AllocNo, Frag, NoMemory, Prov, Stamp, Tag, ThreadNo};
 use eager_tree::Violation;
-use history::{Entry, Piece, Plain, Reply, Request, Trap, Verdict};
+use history::{Entry, Piece, Request, Trap, Verdict};
 use ir_ast::{ModifyOp, Place, Ty, Width};
 use perm_table::{Guard, Perm, RetagKind};
 use std::alloc::Global;
 use std::test::Fail;
+
+/// A request, as a table has it.
+#[derive(Clone, Copy)]
+enum Ask {
+    /// Of so many bytes.
+    Make(u32, Place),
+    /// At an offset, of a type, through a provenance.
+    Load(u32, Ty, Option<Prov>),
+    /// At an offset, of a type, with a value, through a provenance.
+    Store(u32, Ty, u64, Option<Prov>),
+    /// Of the pointer `ADDRESS` to allocation 1, at 0 through allocation 2.
+    StorePointer,
+    /// Of the eight bytes from 0 on.
+    Modify(ModifyOp, u64, Option<Prov>),
+    /// Of the eight bytes from 0 on: the expected value and the new one.
+    CmpXchg(u64, u64, Option<Prov>),
+    /// Of the four bytes of a pointer from its byte of this number on, out of allocation 2.
+    CopyOut(u8),
+    /// Of the same bytes into allocation 3.
+    CopyIn(u8),
+    /// Of so many bytes from an offset on, through node 1 of allocation 1.
+    Retag(u32, u32, RetagKind, Guard),
+    /// Of node 2.
+    EndProtector,
+    /// At its function's return or not, through a provenance.
+    Free(bool, Option<Prov>),
+}
+
+/// A step: its stamp and request, and what it is to be answered.
+type Step = (u64, Ask, Seen, Option<Prov>, Verdict);
 
 const WORD: Ty = Ty::Int(Width::W64);
 
@@ -19,660 +51,576 @@ const HALF: Ty = Ty::Int(Width::W32);
 
 const BYTE: Ty = Ty::Int(Width::W8);
 
-/// A step, and the reply that it is to get.
-#[derive(Drop)]
-struct Step {
-    stamp: u64,
-    request: Request,
-    reply: Reply,
-}
+const STACK: Place = Place::Stack;
 
-/// The steps on one allocation.
-#[derive(Drop)]
-struct Case {
-    number: u32,
-    steps: Vec<Step>,
-}
+const HEAP: Place = Place::Heap;
 
-fn via(number: u32, tag: u64) -> Option<Prov> {
-    Some(Prov {
-        alloc: AllocNo(number),
-        tag: Tag(tag),
-    })
-}
+const FREE: Guard = Guard::Free;
 
-fn denied(offset: u32, tag: u64, perm: Perm, local: bool) -> Verdict {
-    Verdict::Violated(Violation::Denied {
-        offset,
-        node: Tag(tag),
-        perm,
-        local,
-    })
-}
+const STRONG: Guard = Guard::Strong;
 
-fn make(stamp: u64, number: u32, size: u32, place: Place) -> Step {
-    Step {
-        stamp,
-        request: Request::Make { size, place },
-        reply: Reply {
-            plain: Plain::Made(AllocNo(number)),
-            carried: via(number, stamp),
-            verdict: Verdict::Clean,
-        },
+const MUT: RetagKind = RetagKind::Mut;
+
+/// The address of the first byte of allocation 1.
+const ADDRESS: u64 = 0x1_0000_0000;
+
+const X: Option<Prov> = Some(Prov {
+    alloc: AllocNo(1),
+    tag: Tag(1),
+});
+
+const Y: Option<Prov> = Some(Prov {
+    alloc: AllocNo(1),
+    tag: Tag(2),
+});
+
+const Z: Option<Prov> = Some(Prov {
+    alloc: AllocNo(1),
+    tag: Tag(4),
+});
+
+const SECOND: Option<Prov> = Some(Prov {
+    alloc: AllocNo(2),
+    tag: Tag(2),
+});
+
+const THIRD: Option<Prov> = Some(Prov {
+    alloc: AllocNo(3),
+    tag: Tag(3),
+});
+
+const DONE: Seen = Seen::Done;
+
+const ADDED: Seen = Seen::Retagged { added: true };
+
+const CLEAN: Verdict = Verdict::Clean;
+
+const CLOSED: Verdict = Verdict::Closed;
+
+const STRANGER: Verdict = Verdict::Violated(Violation::Stranger);
+
+const CONFLICTED: Verdict = Verdict::Violated(Violation::Denied {
+    offset: 0,
+    node: Tag(2),
+    perm: Perm::Conflicted,
+    local: true,
+});
+
+const UNIQUE_READ: Verdict = Verdict::Violated(Violation::Denied {
+    offset: 4,
+    node: Tag(2),
+    perm: Perm::Unique,
+    local: false,
+});
+
+const RESERVED_WRITE: Verdict = Verdict::Violated(Violation::Denied {
+    offset: 0,
+    node: Tag(2),
+    perm: Perm::Reserved,
+    local: false,
+});
+
+const FROZEN: Verdict = Verdict::Violated(Violation::Denied {
+    offset: 0,
+    node: Tag(2),
+    perm: Perm::Frozen,
+    local: true,
+});
+
+const FROZEN_AT_END: Verdict = Verdict::Violated(Violation::Denied {
+    offset: 65_528,
+    node: Tag(2),
+    perm: Perm::Frozen,
+    local: true,
+});
+
+const DISABLED: Verdict = Verdict::Violated(Violation::Denied {
+    offset: 0,
+    node: Tag(2),
+    perm: Perm::Disabled,
+    local: true,
+});
+
+const DISABLED_BY_END: Verdict = Verdict::Violated(Violation::Denied {
+    offset: 0,
+    node: Tag(4),
+    perm: Perm::Disabled,
+    local: true,
+});
+
+const BESIDE_STRONG: Verdict = Verdict::Violated(Violation::StrongFree {
+    offset: 0,
+    node: Tag(2),
+    perm: Perm::Reserved,
+});
+
+const PAST_THE_END: Verdict = Verdict::Violated(Violation::OutOfRange);
+
+/// A protected reborrow is written after a read past it.
+const CONFLICTED_WRITE: &[Step] = &[
+    (1, Ask::Make(8, STACK), Seen::Made(AllocNo(1)), X, CLEAN),
+    (2, Ask::Retag(0, 8, MUT, STRONG), ADDED, Y, CLEAN),
+    (3, Ask::Load(0, WORD, X), Seen::Value(0), None, CLEAN),
+    (4, Ask::Store(0, WORD, 1, Y), DONE, None, CONFLICTED),
+    (5, Ask::EndProtector, DONE, None, CLOSED),
+    (6, Ask::Free(true, X), DONE, None, CLOSED),
+];
+
+/// A read meets bytes that a protected reborrow has written.
+const READ_OF_UNIQUE: &[Step] = &[
+    (1, Ask::Make(8, STACK), Seen::Made(AllocNo(1)), X, CLEAN),
+    (2, Ask::Retag(0, 8, MUT, STRONG), ADDED, Y, CLEAN),
+    (3, Ask::Store(4, HALF, 1, Y), DONE, None, CLEAN),
+    (
+        4,
+        Ask::Load(0, WORD, X),
+        Seen::Value(ADDRESS),
+        None,
+        UNIQUE_READ,
+    ),
+    (5, Ask::EndProtector, DONE, None, CLOSED),
+    (6, Ask::Free(true, X), DONE, None, CLOSED),
+];
+
+const PROTECTED_CELL: &[Step] = &[
+    (1, Ask::Make(8, STACK), Seen::Made(AllocNo(1)), X, CLEAN),
+    (
+        2,
+        Ask::Retag(0, 8, RetagKind::Cell, STRONG),
+        ADDED,
+        Y,
+        CLEAN,
+    ),
+    (3, Ask::Store(0, WORD, 1, X), DONE, None, RESERVED_WRITE),
+    (4, Ask::EndProtector, DONE, None, CLOSED),
+    (5, Ask::Free(true, X), DONE, None, CLOSED),
+];
+
+const CELL: &[Step] = &[
+    (1, Ask::Make(8, STACK), Seen::Made(AllocNo(1)), X, CLEAN),
+    (2, Ask::Retag(0, 8, RetagKind::Cell, FREE), ADDED, Y, CLEAN),
+    (3, Ask::Store(0, WORD, 1, X), DONE, None, CLEAN),
+    (4, Ask::Load(0, WORD, Y), Seen::Value(1), None, CLEAN),
+    (5, Ask::Free(true, X), DONE, None, CLEAN),
+];
+
+const DENIED_TWICE: &[Step] = &[
+    (1, Ask::Make(8, STACK), Seen::Made(AllocNo(1)), X, CLEAN),
+    (2, Ask::Retag(0, 8, RetagKind::Shr, FREE), ADDED, Y, CLEAN),
+    (3, Ask::Store(0, WORD, 1, Y), DONE, None, FROZEN),
+    (4, Ask::Store(0, WORD, 2, Y), DONE, None, CLOSED),
+    (5, Ask::Free(true, X), DONE, None, CLOSED),
+];
+
+const LARGE: &[Step] = &[
+    (
+        1,
+        Ask::Make(65_536, STACK),
+        Seen::Made(AllocNo(1)),
+        X,
+        CLEAN,
+    ),
+    (2, Ask::Retag(0, 1, MUT, FREE), ADDED, Y, CLEAN),
+    (3, Ask::Store(65_528, WORD, 7, Y), DONE, None, CLEAN),
+    (4, Ask::Load(65_528, WORD, X), Seen::Value(7), None, CLEAN),
+    (6, Ask::Store(0, WORD, 1, Y), DONE, None, CLEAN),
+    (7, Ask::Store(65_528, WORD, 9, Y), DONE, None, FROZEN_AT_END),
+    (8, Ask::Free(true, X), DONE, None, CLOSED),
+];
+
+const WEAK: &[Step] = &[
+    (1, Ask::Make(8, HEAP), Seen::Made(AllocNo(1)), X, CLEAN),
+    (
+        2,
+        Ask::Retag(0, 8, RetagKind::Boxed, Guard::Weak),
+        ADDED,
+        Y,
+        CLEAN,
+    ),
+    (3, Ask::Free(false, Y), DONE, None, CLEAN),
+    (4, Ask::EndProtector, DONE, None, CLEAN),
+];
+
+const STRONG_FREE: &[Step] = &[
+    (1, Ask::Make(8, HEAP), Seen::Made(AllocNo(1)), X, CLEAN),
+    (2, Ask::Retag(0, 8, MUT, STRONG), ADDED, Y, CLEAN),
+    (3, Ask::Free(false, Y), DONE, None, BESIDE_STRONG),
+    (4, Ask::EndProtector, DONE, None, CLOSED),
+];
+
+/// The end of a protector is a write where its node has written.
+const ENDED: &[Step] = &[
+    (1, Ask::Make(16, STACK), Seen::Made(AllocNo(1)), X, CLEAN),
+    (2, Ask::Retag(0, 8, MUT, STRONG), ADDED, Y, CLEAN),
+    (3, Ask::Store(0, WORD, 1, Y), DONE, None, CLEAN),
+    (4, Ask::Retag(8, 8, MUT, FREE), ADDED, Z, CLEAN),
+    (5, Ask::EndProtector, DONE, None, CLEAN),
+    (
+        6,
+        Ask::Load(0, WORD, Z),
+        Seen::Value(1),
+        None,
+        DISABLED_BY_END,
+    ),
+    (7, Ask::Free(true, X), DONE, None, CLOSED),
+];
+
+const OUTSIDE: &[Step] = &[
+    (1, Ask::Make(8, STACK), Seen::Made(AllocNo(1)), X, CLEAN),
+    (2, Ask::Retag(0, 8, MUT, FREE), ADDED, Y, CLEAN),
+    (
+        3,
+        Ask::Retag(1, 8, MUT, FREE),
+        Seen::Retagged { added: false },
+        X,
+        PAST_THE_END,
+    ),
+    (4, Ask::Free(true, X), DONE, None, CLOSED),
+];
+
+/// A pointer of another allocation writes here.
+const TARGET: &[Step] = &[
+    (
+        2,
+        Ask::Make(8, STACK),
+        Seen::Made(AllocNo(2)),
+        SECOND,
+        CLEAN,
+    ),
+    (3, Ask::Store(0, WORD, 5, X), DONE, None, STRANGER),
+    (4, Ask::Load(0, WORD, SECOND), Seen::Value(5), None, CLOSED),
+    (6, Ask::Free(true, SECOND), DONE, None, CLOSED),
+];
+
+const BESIDE: &[Step] = &[
+    (1, Ask::Make(8, STACK), Seen::Made(AllocNo(1)), X, CLEAN),
+    (7, Ask::Free(true, X), DONE, None, CLEAN),
+];
+
+/// A pointer is stored and copied out in halves.
+const SOURCE: &[Step] = &[
+    (
+        2,
+        Ask::Make(8, STACK),
+        Seen::Made(AllocNo(2)),
+        SECOND,
+        CLEAN,
+    ),
+    (4, Ask::StorePointer, DONE, None, CLEAN),
+    (5, Ask::CopyOut(0), Seen::Copied, None, CLEAN),
+    (7, Ask::CopyOut(4), Seen::Copied, None, CLEAN),
+    (12, Ask::Free(true, SECOND), DONE, None, CLEAN),
+];
+
+/// Both halves are copied in, and make the pointer again.
+const COPIED: &[Step] = &[
+    (3, Ask::Make(8, STACK), Seen::Made(AllocNo(3)), THIRD, CLEAN),
+    (6, Ask::CopyIn(0), DONE, None, CLEAN),
+    (8, Ask::CopyIn(4), DONE, None, CLEAN),
+    (
+        9,
+        Ask::Load(0, Ty::Ptr, THIRD),
+        Seen::Value(ADDRESS),
+        X,
+        CLEAN,
+    ),
+    (11, Ask::Free(true, THIRD), DONE, None, CLEAN),
+];
+
+const POINTED_AT: &[Step] = &[
+    (1, Ask::Make(8, STACK), Seen::Made(AllocNo(1)), X, CLEAN),
+    (10, Ask::Store(0, WORD, 1, X), DONE, None, CLEAN),
+    (13, Ask::Free(true, X), DONE, None, CLEAN),
+];
+
+/// One byte of a pointer is written again, with the same value.
+const OVERWRITTEN: &[Step] = &[
+    (3, Ask::Make(8, STACK), Seen::Made(AllocNo(3)), THIRD, CLEAN),
+    (6, Ask::CopyIn(0), DONE, None, CLEAN),
+    (8, Ask::CopyIn(4), DONE, None, CLEAN),
+    (9, Ask::Load(0, BYTE, THIRD), Seen::Value(0), None, CLEAN),
+    (10, Ask::Store(0, BYTE, 0, THIRD), DONE, None, CLEAN),
+    (
+        11,
+        Ask::Load(0, Ty::Ptr, THIRD),
+        Seen::Value(ADDRESS),
+        None,
+        CLEAN,
+    ),
+    (13, Ask::Free(true, THIRD), DONE, None, CLEAN),
+];
+
+const UNTAGGED: &[Step] = &[
+    (1, Ask::Make(8, STACK), Seen::Made(AllocNo(1)), X, CLEAN),
+    (12, Ask::Store(0, WORD, 1, None), DONE, None, STRANGER),
+    (15, Ask::Free(true, X), DONE, None, CLOSED),
+];
+
+const MODIFIED: &[Step] = &[
+    (1, Ask::Make(8, STACK), Seen::Made(AllocNo(1)), X, CLEAN),
+    (2, Ask::Retag(0, 8, MUT, FREE), ADDED, Y, CLEAN),
+    (
+        3,
+        Ask::Modify(ModifyOp::Add, 5, Y),
+        Seen::Value(0),
+        None,
+        CLEAN,
+    ),
+    (
+        4,
+        Ask::Modify(ModifyOp::Sub, 6, Y),
+        Seen::Value(5),
+        None,
+        CLEAN,
+    ),
+    (5, Ask::Load(0, WORD, X), Seen::Value(u64::MAX), None, CLEAN),
+    (
+        6,
+        Ask::Modify(ModifyOp::And, 12, Y),
+        Seen::Value(u64::MAX),
+        None,
+        FROZEN,
+    ),
+    (7, Ask::Load(0, WORD, X), Seen::Value(12), None, CLOSED),
+    (8, Ask::Free(true, X), DONE, None, CLOSED),
+];
+
+const EXCHANGED: &[Step] = &[
+    (1, Ask::Make(8, STACK), Seen::Made(AllocNo(1)), X, CLEAN),
+    (2, Ask::Retag(0, 8, MUT, FREE), ADDED, Y, CLEAN),
+    (3, Ask::CmpXchg(0, 7, Y), Seen::Value(0), None, CLEAN),
+    (4, Ask::Load(0, WORD, Y), Seen::Value(7), None, CLEAN),
+    (5, Ask::CmpXchg(7, 9, X), Seen::Value(7), None, CLEAN),
+    (6, Ask::Load(0, WORD, Y), Seen::Value(9), None, DISABLED),
+    (7, Ask::Free(true, X), DONE, None, CLOSED),
+];
+
+/// Another value is found: the bytes stay, and the write still disables the other node.
+const OTHER_VALUE: &[Step] = &[
+    (1, Ask::Make(8, STACK), Seen::Made(AllocNo(1)), X, CLEAN),
+    (2, Ask::Retag(0, 8, MUT, FREE), ADDED, Y, CLEAN),
+    (3, Ask::CmpXchg(1, 7, X), Seen::Value(0), None, CLEAN),
+    (4, Ask::Load(0, WORD, X), Seen::Value(0), None, CLEAN),
+    (5, Ask::Load(0, WORD, Y), Seen::Value(0), None, DISABLED),
+    (6, Ask::Free(true, X), DONE, None, CLOSED),
+];
+
+const MODIFIED_POINTER: &[Step] = &[
+    (
+        2,
+        Ask::Make(8, STACK),
+        Seen::Made(AllocNo(2)),
+        SECOND,
+        CLEAN,
+    ),
+    (3, Ask::StorePointer, DONE, None, CLEAN),
+    (
+        4,
+        Ask::Modify(ModifyOp::Add, 0, SECOND),
+        Seen::Value(ADDRESS),
+        None,
+        CLEAN,
+    ),
+    (
+        5,
+        Ask::Load(0, Ty::Ptr, SECOND),
+        Seen::Value(ADDRESS),
+        None,
+        CLEAN,
+    ),
+    (6, Ask::Free(true, SECOND), DONE, None, CLEAN),
+];
+
+const EXCHANGED_POINTER: &[Step] = &[
+    (
+        2,
+        Ask::Make(8, STACK),
+        Seen::Made(AllocNo(2)),
+        SECOND,
+        CLEAN,
+    ),
+    (3, Ask::StorePointer, DONE, None, CLEAN),
+    (
+        4,
+        Ask::CmpXchg(ADDRESS, ADDRESS, SECOND),
+        Seen::Value(ADDRESS),
+        None,
+        CLEAN,
+    ),
+    (
+        5,
+        Ask::Load(0, Ty::Ptr, SECOND),
+        Seen::Value(ADDRESS),
+        None,
+        CLEAN,
+    ),
+    (6, Ask::Free(true, SECOND), DONE, None, CLEAN),
+];
+
+const KEPT_POINTER: &[Step] = &[
+    (
+        2,
+        Ask::Make(8, STACK),
+        Seen::Made(AllocNo(2)),
+        SECOND,
+        CLEAN,
+    ),
+    (3, Ask::StorePointer, DONE, None, CLEAN),
+    (
+        4,
+        Ask::CmpXchg(7, 9, SECOND),
+        Seen::Value(ADDRESS),
+        None,
+        CLEAN,
+    ),
+    (
+        5,
+        Ask::Load(0, Ty::Ptr, SECOND),
+        Seen::Value(ADDRESS),
+        X,
+        CLEAN,
+    ),
+    (6, Ask::Free(true, SECOND), DONE, None, CLEAN),
+];
+
+const READ_FREED: &[Step] = &[
+    (1, Ask::Make(8, HEAP), Seen::Made(AllocNo(1)), X, CLEAN),
+    (2, Ask::Free(false, X), DONE, None, CLEAN),
+    (
+        3,
+        Ask::Load(0, WORD, X),
+        Seen::Trapped(Trap::Freed),
+        None,
+        CLEAN,
+    ),
+];
+
+const FREED_TWICE: &[Step] = &[
+    (1, Ask::Make(8, HEAP), Seen::Made(AllocNo(1)), X, CLEAN),
+    (2, Ask::Free(false, X), DONE, None, CLEAN),
+    (
+        3,
+        Ask::Free(false, X),
+        Seen::Trapped(Trap::Freed),
+        None,
+        CLEAN,
+    ),
+];
+
+const FREED_ON_STACK: &[Step] = &[
+    (1, Ask::Make(8, STACK), Seen::Made(AllocNo(1)), X, CLEAN),
+    (
+        2,
+        Ask::Free(false, X),
+        Seen::Trapped(Trap::BadFree),
+        None,
+        CLEAN,
+    ),
+];
+
+const UNMADE: &[Step] = &[(
+    1,
+    Ask::Load(0, WORD, None),
+    Seen::Trapped(Trap::NoAllocation),
+    None,
+    CLEAN,
+)];
+
+/// Each case with the number of its allocation.
+const CASES: &[(u32, &[Step])] = &[
+    (1, CONFLICTED_WRITE),
+    (1, READ_OF_UNIQUE),
+    (1, PROTECTED_CELL),
+    (1, CELL),
+    (1, DENIED_TWICE),
+    (1, LARGE),
+    (1, WEAK),
+    (1, STRONG_FREE),
+    (1, ENDED),
+    (1, OUTSIDE),
+    (2, TARGET),
+    (1, BESIDE),
+    (2, SOURCE),
+    (3, COPIED),
+    (1, POINTED_AT),
+    (3, OVERWRITTEN),
+    (1, UNTAGGED),
+    (1, MODIFIED),
+    (1, EXCHANGED),
+    (1, OTHER_VALUE),
+    (2, MODIFIED_POINTER),
+    (2, EXCHANGED_POINTER),
+    (2, KEPT_POINTER),
+    (1, READ_FREED),
+    (1, FREED_TWICE),
+    (1, FREED_ON_STACK),
+    (0, UNMADE),
+];
+
+/// Four bytes of the pointer `ADDRESS`, from its byte of this number on, with the provenance of node 1.
+fn half(alloc: Global, first: u8) -> Result<Piece, NoMemory> {
+    let mut piece = Piece::new(alloc);
+    for index in [0, 1, 2, 3] {
+        let index = first % 8 + index;
+        let frag = X.map(|prov| Frag { prov, index });
+        piece.push(u8::from(index == 4), frag)?;
     }
+    Ok(piece)
 }
 
-fn retag(stamp: u64, at: u32, len: u32, kind: RetagKind, guard: Guard) -> Step {
-    Step {
-        stamp,
-        request: Request::Retag {
-            at,
-            len,
-            kind,
-            guard,
-            prov: via(1, 1),
-        },
-        reply: Reply {
-            plain: Plain::Retagged { added: true },
-            carried: via(1, stamp),
-            verdict: Verdict::Clean,
-        },
-    }
-}
-
-fn past_the_end(stamp: u64) -> Step {
-    Step {
-        stamp,
-        request: Request::Retag {
-            at: 1,
-            len: 8,
-            kind: RetagKind::Mut,
-            guard: Guard::Free,
-            prov: via(1, 1),
-        },
-        reply: Reply {
-            plain: Plain::Retagged { added: false },
-            carried: via(1, 1),
-            verdict: Verdict::Violated(Violation::OutOfRange),
-        },
-    }
-}
-
-fn load(stamp: u64, at: u32, ty: Ty, prov: Option<Prov>, value: u64, verdict: Verdict) -> Step {
-    Step {
-        stamp,
-        request: Request::Load { at, ty, prov },
-        reply: Reply {
-            plain: Plain::Value(value),
-            carried: None,
-            verdict,
-        },
-    }
-}
-
-fn load_pointer(stamp: u64, prov: Option<Prov>, carried: Option<Prov>) -> Step {
-    Step {
-        stamp,
-        request: Request::Load {
-            at: 0,
-            ty: Ty::Ptr,
-            prov,
-        },
-        reply: Reply {
-            plain: Plain::Value(0x1_0000_0000),
-            carried,
-            verdict: Verdict::Clean,
-        },
-    }
-}
-
-fn store(stamp: u64, at: u32, ty: Ty, value: u64, prov: Option<Prov>, verdict: Verdict) -> Step {
-    Step {
-        stamp,
-        request: Request::Store {
+/// The request, with the memory that it owns.
+fn request_of(alloc: Global, ask: Ask) -> Result<Request, NoMemory> {
+    Ok(match ask {
+        Ask::Make(size, place) => Request::Make { size, place },
+        Ask::Load(at, ty, prov) => Request::Load { at, ty, prov },
+        Ask::Store(at, ty, value, prov) => Request::Store {
             at,
             ty,
             value,
             carried: None,
             prov,
         },
-        reply: Reply {
-            plain: Plain::Done,
-            carried: None,
-            verdict,
+        Ask::StorePointer => Request::Store {
+            at: 0,
+            ty: Ty::Ptr,
+            value: ADDRESS,
+            carried: X,
+            prov: SECOND,
         },
-    }
-}
-
-/// A `rmw` of the eight bytes from 0 on, which finds `old`.
-fn modify(
-    stamp: u64,
-    op: ModifyOp,
-    value: u64,
-    prov: Option<Prov>,
-    old: u64,
-    verdict: Verdict,
-) -> Step {
-    Step {
-        stamp,
-        request: Request::Modify {
+        Ask::Modify(op, value, prov) => Request::Modify {
             at: 0,
             width: Width::W64,
             op,
             value,
             prov,
         },
-        reply: Reply {
-            plain: Plain::Value(old),
-            carried: None,
-            verdict,
-        },
-    }
-}
-
-/// A `cmpxchg` of the eight bytes from 0 on, which finds `old`.
-fn cmp_xchg(
-    stamp: u64,
-    expected: u64,
-    value: u64,
-    prov: Option<Prov>,
-    old: u64,
-    verdict: Verdict,
-) -> Step {
-    Step {
-        stamp,
-        request: Request::CmpXchg {
+        Ask::CmpXchg(expected, value, prov) => Request::CmpXchg {
             at: 0,
             width: Width::W64,
             expected,
             value,
             prov,
         },
-        reply: Reply {
-            plain: Plain::Value(old),
-            carried: None,
-            verdict,
-        },
-    }
-}
-
-fn end(stamp: u64, verdict: Verdict) -> Step {
-    Step {
-        stamp,
-        request: Request::EndProtector { tag: Tag(2) },
-        reply: Reply {
-            plain: Plain::Done,
-            carried: None,
-            verdict,
-        },
-    }
-}
-
-fn free(stamp: u64, stack: bool, prov: Option<Prov>, verdict: Verdict) -> Step {
-    Step {
-        stamp,
-        request: Request::Free { at: 0, stack, prov },
-        reply: Reply {
-            plain: Plain::Done,
-            carried: None,
-            verdict,
-        },
-    }
-}
-
-fn read(prov: Option<Prov>) -> Request {
-    Request::Load {
-        at: 0,
-        ty: WORD,
-        prov,
-    }
-}
-
-fn freeing(prov: Option<Prov>) -> Request {
-    Request::Free {
-        at: 0,
-        stack: false,
-        prov,
-    }
-}
-
-fn trapped(stamp: u64, request: Request, trap: Trap) -> Step {
-    Step {
-        stamp,
-        request,
-        reply: Reply {
-            plain: Plain::Trapped(trap),
-            carried: None,
-            verdict: Verdict::Clean,
-        },
-    }
-}
-
-/// Reads and writes of a program through a reborrowed pointer, without and with a protector.
-fn accesses(alloc: Global) -> Result<Vec<Case>, Fail> {
-    let x = via(1, 1);
-    let y = via(1, 2);
-    let conflicted = vec![in alloc;
-        make(1, 1, 8, Place::Stack),
-        retag(2, 0, 8, RetagKind::Mut, Guard::Strong),
-        load(3, 0, WORD, x, 0, Verdict::Clean),
-        store(4, 0, WORD, 1, y, denied(0, 2, Perm::Conflicted, true)),
-        end(5, Verdict::Closed),
-        free(6, true, x, Verdict::Closed),
-    ]?;
-    let unique = vec![in alloc;
-        make(1, 1, 8, Place::Stack),
-        retag(2, 0, 8, RetagKind::Mut, Guard::Strong),
-        store(3, 4, HALF, 1, y, Verdict::Clean),
-        load(
-            4,
-            0,
-            WORD,
-            x,
-            0x1_0000_0000,
-            denied(4, 2, Perm::Unique, false)
-        ),
-        end(5, Verdict::Closed),
-        free(6, true, x, Verdict::Closed),
-    ]?;
-    let protected_cell = vec![in alloc;
-        make(1, 1, 8, Place::Stack),
-        retag(2, 0, 8, RetagKind::Cell, Guard::Strong),
-        store(3, 0, WORD, 1, x, denied(0, 2, Perm::Reserved, false)),
-        end(4, Verdict::Closed),
-        free(5, true, x, Verdict::Closed),
-    ]?;
-    let cell = vec![in alloc;
-        make(1, 1, 8, Place::Stack),
-        retag(2, 0, 8, RetagKind::Cell, Guard::Free),
-        store(3, 0, WORD, 1, x, Verdict::Clean),
-        load(4, 0, WORD, y, 1, Verdict::Clean),
-        free(5, true, x, Verdict::Clean),
-    ]?;
-    let denied_twice = vec![in alloc;
-        make(1, 1, 8, Place::Stack),
-        retag(2, 0, 8, RetagKind::Shr, Guard::Free),
-        store(3, 0, WORD, 1, y, denied(0, 2, Perm::Frozen, true)),
-        store(4, 0, WORD, 2, y, Verdict::Closed),
-        free(5, true, x, Verdict::Closed),
-    ]?;
-    let large = vec![in alloc;
-        make(1, 1, 65_536, Place::Stack),
-        retag(2, 0, 1, RetagKind::Mut, Guard::Free),
-        store(3, 65_528, WORD, 7, y, Verdict::Clean),
-        load(4, 65_528, WORD, x, 7, Verdict::Clean),
-        store(6, 0, WORD, 1, y, Verdict::Clean),
-        store(7, 65_528, WORD, 9, y, denied(65_528, 2, Perm::Frozen, true)),
-        free(8, true, x, Verdict::Closed),
-    ]?;
-    Ok(vec![in alloc;
-        Case {
-            number: 1,
-            steps: conflicted
-        },
-        Case {
-            number: 1,
-            steps: unique
-        },
-        Case {
-            number: 1,
-            steps: protected_cell
-        },
-        Case {
-            number: 1,
-            steps: cell
-        },
-        Case {
-            number: 1,
-            steps: denied_twice
-        },
-        Case {
-            number: 1,
-            steps: large
-        },
-    ]?)
-}
-
-/// Ends of protectors, frees, and retags past the end.
-fn ends(alloc: Global) -> Result<Vec<Case>, Fail> {
-    let x = via(1, 1);
-    let y = via(1, 2);
-    let weak = vec![in alloc;
-        make(1, 1, 8, Place::Heap),
-        retag(2, 0, 8, RetagKind::Boxed, Guard::Weak),
-        free(3, false, y, Verdict::Clean),
-        end(4, Verdict::Clean),
-    ]?;
-    let beside_strong = Verdict::Violated(Violation::StrongFree {
-        offset: 0,
-        node: Tag(2),
-        perm: Perm::Reserved,
-    });
-    let strong = vec![in alloc;
-        make(1, 1, 8, Place::Heap),
-        retag(2, 0, 8, RetagKind::Mut, Guard::Strong),
-        free(3, false, y, beside_strong),
-        end(4, Verdict::Closed),
-    ]?;
-    let ended = vec![in alloc;
-        make(1, 1, 16, Place::Stack),
-        retag(2, 0, 8, RetagKind::Mut, Guard::Strong),
-        store(3, 0, WORD, 1, y, Verdict::Clean),
-        retag(4, 8, 8, RetagKind::Mut, Guard::Free),
-        end(5, Verdict::Clean),
-        load(6, 0, WORD, via(1, 4), 1, denied(0, 4, Perm::Disabled, true)),
-        free(7, true, x, Verdict::Closed),
-    ]?;
-    let outside = vec![in alloc;
-        make(1, 1, 8, Place::Stack),
-        retag(2, 0, 8, RetagKind::Mut, Guard::Free),
-        past_the_end(3),
-        free(4, true, x, Verdict::Closed),
-    ]?;
-    Ok(vec![in alloc;
-        Case {
-            number: 1,
-            steps: weak
-        },
-        Case {
-            number: 1,
-            steps: strong
-        },
-        Case {
-            number: 1,
-            steps: ended
-        },
-        Case {
-            number: 1,
-            steps: outside
-        },
-    ]?)
-}
-
-/// Four bytes of a stored pointer to byte 0 of allocation 1 through node 1: those from `first` on.
-fn half(alloc: Global, first: u8) -> Result<Piece, Fail> {
-    let mut piece = Piece::new(alloc);
-    for i in 0..4_u8 {
-        let index = (first % 8).saturating_add(i);
-        let byte = if index == 4 { 1 } else { 0 };
-        let prov = Prov {
-            alloc: AllocNo(1),
-            tag: Tag(1),
-        };
-        if piece.len() >= 32 {
-            return Err(Fail::new("no room"));
-        }
-        piece.push(byte, Some(Frag { prov, index }))?;
-    }
-    Ok(piece)
-}
-
-fn copy_out(alloc: Global, stamp: u64, first: u8) -> Result<Step, Fail> {
-    Ok(Step {
-        stamp,
-        request: Request::CopyOut {
+        Ask::CopyOut(first) => Request::CopyOut {
             at: u32::from(first),
             len: 4,
-            prov: via(2, 2),
+            prov: SECOND,
         },
-        reply: Reply {
-            plain: Plain::Copied(half(alloc, first)?),
-            carried: None,
-            verdict: Verdict::Clean,
-        },
-    })
-}
-
-fn copy_in(alloc: Global, stamp: u64, first: u8) -> Result<Step, Fail> {
-    Ok(Step {
-        stamp,
-        request: Request::CopyIn {
+        Ask::CopyIn(first) => Request::CopyIn {
             at: u32::from(first),
             piece: half(alloc, first)?,
-            prov: via(3, 3),
+            prov: THIRD,
         },
-        reply: Reply {
-            plain: Plain::Done,
-            carried: None,
-            verdict: Verdict::Clean,
+        Ask::Retag(at, len, kind, guard) => Request::Retag {
+            at,
+            len,
+            kind,
+            guard,
+            prov: X,
         },
+        Ask::EndProtector => Request::EndProtector { tag: Tag(2) },
+        Ask::Free(stack, prov) => Request::Free { at: 0, stack, prov },
     })
-}
-
-fn store_pointer(stamp: u64) -> Step {
-    Step {
-        stamp,
-        request: Request::Store {
-            at: 0,
-            ty: Ty::Ptr,
-            value: 0x1_0000_0000,
-            carried: via(1, 1),
-            prov: via(2, 2),
-        },
-        reply: Reply {
-            plain: Plain::Done,
-            carried: None,
-            verdict: Verdict::Clean,
-        },
-    }
-}
-
-/// Pointers of other allocations and without provenance, and pointers in memory.
-fn pointers(alloc: Global) -> Result<Vec<Case>, Fail> {
-    let stranger = Verdict::Violated(Violation::Stranger);
-    let target = vec![in alloc;
-        make(2, 2, 8, Place::Stack),
-        store(3, 0, WORD, 5, via(1, 1), stranger),
-        load(4, 0, WORD, via(2, 2), 5, Verdict::Closed),
-        free(6, true, via(2, 2), Verdict::Closed),
-    ]?;
-    let beside = vec![in alloc;
-        make(1, 1, 8, Place::Stack),
-        free(7, true, via(1, 1), Verdict::Clean),
-    ]?;
-    let source = vec![in alloc;
-        make(2, 2, 8, Place::Stack),
-        store_pointer(4),
-        copy_out(alloc, 5, 0)?,
-        copy_out(alloc, 7, 4)?,
-        free(12, true, via(2, 2), Verdict::Clean),
-    ]?;
-    let copied = vec![in alloc;
-        make(3, 3, 8, Place::Stack),
-        copy_in(alloc, 6, 0)?,
-        copy_in(alloc, 8, 4)?,
-        load_pointer(9, via(3, 3), via(1, 1)),
-        free(11, true, via(3, 3), Verdict::Clean),
-    ]?;
-    let pointed_at = vec![in alloc;
-        make(1, 1, 8, Place::Stack),
-        store(10, 0, WORD, 1, via(1, 1), Verdict::Clean),
-        free(13, true, via(1, 1), Verdict::Clean),
-    ]?;
-    Ok(vec![in alloc;
-        Case {
-            number: 2,
-            steps: target
-        },
-        Case {
-            number: 1,
-            steps: beside
-        },
-        Case {
-            number: 2,
-            steps: source
-        },
-        Case {
-            number: 3,
-            steps: copied
-        },
-        Case {
-            number: 1,
-            steps: pointed_at
-        },
-    ]?)
-}
-
-/// A stored pointer of which one byte is written again, with the same value.
-fn broken_pointer(alloc: Global) -> Result<Vec<Case>, Fail> {
-    let overwritten = vec![in alloc;
-        make(3, 3, 8, Place::Stack),
-        copy_in(alloc, 6, 0)?,
-        copy_in(alloc, 8, 4)?,
-        load(9, 0, BYTE, via(3, 3), 0, Verdict::Clean),
-        store(10, 0, BYTE, 0, via(3, 3), Verdict::Clean),
-        load_pointer(11, via(3, 3), None),
-        free(13, true, via(3, 3), Verdict::Clean),
-    ]?;
-    let untagged = vec![in alloc;
-        make(1, 1, 8, Place::Stack),
-        store(12, 0, WORD, 1, None, Verdict::Violated(Violation::Stranger)),
-        free(15, true, via(1, 1), Verdict::Closed),
-    ]?;
-    Ok(vec![in alloc;
-        Case {
-            number: 3,
-            steps: overwritten
-        },
-        Case {
-            number: 1,
-            steps: untagged
-        },
-    ]?)
-}
-
-/// Steps that read and write at once: the data, and what the tree makes of the write.
-fn exchanges(alloc: Global) -> Result<Vec<Case>, Fail> {
-    let x = via(1, 1);
-    let y = via(1, 2);
-    let modified = vec![in alloc;
-        make(1, 1, 8, Place::Stack),
-        retag(2, 0, 8, RetagKind::Mut, Guard::Free),
-        modify(3, ModifyOp::Add, 5, y, 0, Verdict::Clean),
-        modify(4, ModifyOp::Sub, 6, y, 5, Verdict::Clean),
-        load(5, 0, WORD, x, u64::MAX, Verdict::Clean),
-        modify(
-            6,
-            ModifyOp::And,
-            12,
-            y,
-            u64::MAX,
-            denied(0, 2, Perm::Frozen, true)
-        ),
-        load(7, 0, WORD, x, 12, Verdict::Closed),
-        free(8, true, x, Verdict::Closed),
-    ]?;
-    let exchanged = vec![in alloc;
-        make(1, 1, 8, Place::Stack),
-        retag(2, 0, 8, RetagKind::Mut, Guard::Free),
-        cmp_xchg(3, 0, 7, y, 0, Verdict::Clean),
-        load(4, 0, WORD, y, 7, Verdict::Clean),
-        cmp_xchg(5, 7, 9, x, 7, Verdict::Clean),
-        load(6, 0, WORD, y, 9, denied(0, 2, Perm::Disabled, true)),
-        free(7, true, x, Verdict::Closed),
-    ]?;
-    // another value is found: the bytes stay, and the tree's write disables the other node
-    let other_value = vec![in alloc;
-        make(1, 1, 8, Place::Stack),
-        retag(2, 0, 8, RetagKind::Mut, Guard::Free),
-        cmp_xchg(3, 1, 7, x, 0, Verdict::Clean),
-        load(4, 0, WORD, x, 0, Verdict::Clean),
-        load(5, 0, WORD, y, 0, denied(0, 2, Perm::Disabled, true)),
-        free(6, true, x, Verdict::Closed),
-    ]?;
-    Ok(vec![in alloc;
-        Case {
-            number: 1,
-            steps: modified
-        },
-        Case {
-            number: 1,
-            steps: exchanged
-        },
-        Case {
-            number: 1,
-            steps: other_value
-        },
-    ]?)
-}
-
-/// A stored pointer of which a `rmw` or a `cmpxchg` writes the bytes again, or finds another value.
-fn exchanged_pointers(alloc: Global) -> Result<Vec<Case>, Fail> {
-    let cell = via(2, 2);
-    let address = 0x1_0000_0000;
-    let modified = vec![in alloc;
-        make(2, 2, 8, Place::Stack),
-        store_pointer(3),
-        modify(4, ModifyOp::Add, 0, cell, address, Verdict::Clean),
-        load_pointer(5, cell, None),
-        free(6, true, cell, Verdict::Clean),
-    ]?;
-    let exchanged = vec![in alloc;
-        make(2, 2, 8, Place::Stack),
-        store_pointer(3),
-        cmp_xchg(4, address, address, cell, address, Verdict::Clean),
-        load_pointer(5, cell, None),
-        free(6, true, cell, Verdict::Clean),
-    ]?;
-    let other_value = vec![in alloc;
-        make(2, 2, 8, Place::Stack),
-        store_pointer(3),
-        cmp_xchg(4, 7, 9, cell, address, Verdict::Clean),
-        load_pointer(5, cell, via(1, 1)),
-        free(6, true, cell, Verdict::Clean),
-    ]?;
-    Ok(vec![in alloc;
-        Case {
-            number: 2,
-            steps: modified
-        },
-        Case {
-            number: 2,
-            steps: exchanged
-        },
-        Case {
-            number: 2,
-            steps: other_value
-        },
-    ]?)
-}
-
-/// Steps that plain memory refuses.
-fn traps(alloc: Global) -> Result<Vec<Case>, Fail> {
-    let x = via(1, 1);
-    let read_freed = vec![in alloc;
-        make(1, 1, 8, Place::Heap),
-        free(2, false, x, Verdict::Clean),
-        trapped(3, read(x), Trap::Freed),
-    ]?;
-    let freed_twice = vec![in alloc;
-        make(1, 1, 8, Place::Heap),
-        free(2, false, x, Verdict::Clean),
-        trapped(3, freeing(x), Trap::Freed),
-    ]?;
-    let freed_on_stack = vec![in alloc;
-        make(1, 1, 8, Place::Stack),
-        trapped(2, freeing(x), Trap::BadFree),
-    ]?;
-    let unmade = vec![in alloc; trapped(1, read(None), Trap::NoAllocation)]?;
-    Ok(vec![in alloc;
-        Case {
-            number: 1,
-            steps: read_freed
-        },
-        Case {
-            number: 1,
-            steps: freed_twice
-        },
-        Case {
-            number: 1,
-            steps: freed_on_stack
-        },
-        Case {
-            number: 0,
-            steps: unmade
-        },
-    ]?)
 }
 
 fn is_later(entries: &[Entry], stamp: u64) -> bool
@@ -740,101 +688,46 @@ fn writes_bytes(request: &Request)
     }
 }
 
-/// The reply of the step, where the allocation may be asked for it next.
-fn answered(
-    state: &mut AllocState,
-    stamp: u64,
-    request: Request,
-) -> Result<Option<Reply>, NoMemory> {
-    if !is_later(state.entries(), stamp) {
-        return Ok(None);
-    }
-    if !is_fitting(&request) {
-        return Ok(None);
-    }
-    if !is_first_make(state, &request) {
-        return Ok(None);
+/// Whether the allocation may be asked for the step next, and answers it so.
+fn answers(alloc: Global, state: &mut AllocState, step: Step) -> Result<bool, NoMemory> {
+    let (stamp, ask, seen, carried, verdict) = step;
+    let request = request_of(alloc, ask)?;
+    if !is_later(state.entries(), stamp)
+        || !is_fitting(&request)
+        || !is_first_make(state, &request)
+    {
+        return Ok(false);
     }
     state.prepare(&request)?;
     writes_bytes(&request);
-    let Entry { reply, .. } = state.commit(ThreadNo(0), Stamp(stamp), 0, request);
-    Ok(Some(reply))
-}
-
-fn same_piece(one: &Piece, other: &Piece) -> bool {
-    if one.len() != other.len() {
-        return false;
-    }
-    for i in 0..one.len() {
-        if one.get(i) != other.get(i) {
-            return false;
-        }
-    }
-    true
-}
-
-fn same_plain(one: &Plain, other: &Plain) -> bool {
-    match (one, other) {
-        (Plain::Made(one), Plain::Made(other)) => one == other,
-        (Plain::Value(one), Plain::Value(other)) => one == other,
-        (Plain::Copied(one), Plain::Copied(other)) => same_piece(one, other),
-        (Plain::Done, Plain::Done) => true,
-        (Plain::Retagged { added: one }, Plain::Retagged { added: other }) => one == other,
-        (Plain::Trapped(one), Plain::Trapped(other)) => one == other,
-        _ => false,
-    }
-}
-
-fn same_reply(one: &Reply, other: &Reply) -> bool {
-    same_plain(&one.plain, &other.plain)
-        && one.carried == other.carried
-        && one.verdict == other.verdict
-}
-
-/// Whether the allocation gives each of these replies.
-fn replies_so(alloc: Global, case: Case) -> Result<bool, NoMemory> {
-    let Case { number, steps } = case;
-    let count = steps.len();
-    let mut state = AllocState::unmade(alloc, AllocNo(number));
-    for step in steps {
-        let Step {
-            stamp,
-            request,
-            reply,
-        } = step;
-        match answered(&mut state, stamp, request)? {
-            Some(answer) if same_reply(&answer, &reply) => (),
-            _ => return Ok(false),
-        }
-    }
-    Ok(state.number() == AllocNo(number) && state.into_entries().len() == count)
+    let entry = state.commit(ThreadNo(0), Stamp(stamp), 0, request);
+    let piece = match ask {
+        Ask::CopyOut(first) => half(alloc, first)?,
+        _ => Piece::new(alloc),
+    };
+    let outcome = Outcome {
+        seen,
+        carried,
+        verdict,
+    };
+    Ok(entry.reply.equals(&outcome.reply(piece)))
 }
 
 /// Asks that a value may move to another thread.
 fn ask_sent<T: Send>(_: &T) {}
 
 #[test]
-fn allocations_move_between_threads(rt: HostRuntime) {
-    let state = AllocState::unmade(rt.alloc(), AllocNo(1));
-    ask_sent(&state);
-}
-
-#[test]
 fn each_allocation_replies_as_worked_out(rt: HostRuntime) -> Result<(), Fail> {
-    let alloc = rt.alloc();
-    let groups = vec![in alloc;
-        accesses(alloc)?,
-        ends(alloc)?,
-        pointers(alloc)?,
-        broken_pointer(alloc)?,
-        exchanges(alloc)?,
-        exchanged_pointers(alloc)?,
-        traps(alloc)?,
-    ]?;
-    for group in groups {
-        for case in group {
-            assert!(rt; replies_so(alloc, case)?);
+    for (number, steps) in CASES {
+        let number = AllocNo(*number);
+        let mut state = AllocState::unmade(rt.alloc(), number);
+        ask_sent(&state);
+        for step in *steps {
+            assert!(rt; answers(rt.alloc(), &mut state, *step)?);
         }
+        assert_eq!(rt; state.tree().is_some(), state.is_made());
+        assert_eq!(rt; state.number(), number);
+        assert_eq!(rt; state.into_entries().len(), steps.len());
     }
     Ok(())
 }

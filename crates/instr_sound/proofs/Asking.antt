@@ -40,7 +40,7 @@ use Rattle.target_code.specs.declared.line.Line.TheVariants as line
 use Rattle.instrument.specs.Translation.{Scope, scope_of, slot, slot_of_dest, written, operand_of, shadow_of, operands_of, arg_lines, take_lines, params_at, goal_lines, op_lines, jump_lines, ret_lines, body_lines, entry_retags, retag_lines, block_number}
 use Rattle.ir_ast.specs.Numbers.{place, host_names}
 use Rattle.thread_machine.specs.Thread.{TargetFrame, Thread, word_at, prov_of, pointer_at, word_of, shadow_at, operand_at, operands_at, at_lines, set_word, with_value, set_result, run, go_on, cross, call_ask, over_ask, version_ask}
-use Rattle.instr_sound.specs.Stands.{SlotsHold, Hidden, image, rest_lines, copying_lines, lines_for, CopiesSome, IsCopying, Beside, CallersStand, StandsBy, Stands, source_setting}
+use Rattle.instr_sound.specs.Simulation.{SlotsHold, Hidden, image, rest_lines, copying_lines, lines_for, CopiesSome, IsCopying, Beside, CallersSimulate, SimulatesBy, Simulates, source_setting}
 use Rattle.instr_sound.proofs.Rows.{operand_word, operand_prov, args_row, run_args, run_takes}
 use Rattle.instr_sound.proofs.Lines.{run_stops, run_passes, retag_stops, retag_passes, result_stops, copy_stops, copy_passes, pop_stops, pop_passes, run_ret, result_after, FirstRetag, RetagsLeft, retags}
 use Rattle.history.specs.declared.entry.Request.TheVariants.{Store}
@@ -256,18 +256,18 @@ module _ (p : Program) (hosts : List HostEntry) (input : List ℕ) (g : Function
   doing_asks is (Leaving v) b = leaving_asks v b.0 b.1
 
 -- as many frames wait on both sides
-pub as_deep : (p : Program) (hosts : List HostEntry) (fs : List Frame) (ts : List TargetFrame) → CallersStand p hosts fs ts → length ts ≡ length fs
+pub as_deep : (p : Program) (hosts : List HostEntry) (fs : List Frame) (ts : List TargetFrame) → CallersSimulate p hosts fs ts → length ts ≡ length fs
 as_deep p hosts [] [] c = refl
 as_deep p hosts [] (t ∷ ts) c = absurd c
 as_deep p hosts (f ∷ fs) [] c = absurd c
 as_deep p hosts (f ∷ fs) (t ∷ ts) c = ap suc (as_deep p hosts fs ts c.1)
 
-asks_by : (p : Program) (hosts : List HostEntry) (input : List ℕ) (s : Source) (t : Thread) (frames : List Frame) → StandsBy p hosts input s t frames → version_ask p.version t ≡ frames_ask (source_setting p hosts input) frames s.over
+asks_by : (p : Program) (hosts : List HostEntry) (input : List ℕ) (s : Source) (t : Thread) (frames : List Frame) → SimulatesBy p hosts input s t frames → version_ask p.version t ≡ frames_ask (source_setting p hosts input) frames s.over
 asks_by p hosts input s t [] st = ap (over_ask p.version t) st.over
 asks_by p hosts input s t (f ∷ fs) st =
     ap (version_ask p.version) st.is
     ∙ doing_asks p hosts input st.code f.function f.number f.term f.env f.owned st.hidden s.count fs st.top.holds (as_deep p hosts fs st.hidden.callers st.callers) f.insts f.doing st.top.beside
 
 -- the target thread asks what the source thread asks
-pub asks : (p : Program) (hosts : List HostEntry) (input : List ℕ) (s : Source) (t : Thread) → Stands p hosts input s t → version_ask p.version t ≡ source_ask (source_setting p hosts input) s
+pub asks : (p : Program) (hosts : List HostEntry) (input : List ℕ) (s : Source) (t : Thread) → Simulates p hosts input s t → version_ask p.version t ≡ source_ask (source_setting p hosts input) s
 asks p hosts input s t st = asks_by p hosts input s t s.frames st

@@ -41,7 +41,7 @@ use Rattle.instrument.specs.Known.{HasRegister, HasInst, HasBlock}
 use Rattle.instrument.proofs.Ends.{each_got}
 use Rattle.thread_machine.specs.Thread.{Row, empty_row, TargetFrame, Thread, at_lines, run, go_on, cross, block_at, turn_number, frame_at, first_lines, call_by, return_by, thread_turn}
 use Rattle.instr_sound.specs.Fits.{InstFits, JumpFits, ParamKnown, IsPointerAttr, ParamFits, FunctionFits, ProgramFits}
-use Rattle.instr_sound.specs.Stands.{SlotsHold, Hidden, image, rest_lines, Beside, MayTake, waiting_frame, CallerWaits, CallerStands, CallersStand, Going, StandsBy, source_setting, target_setting}
+use Rattle.instr_sound.specs.Simulation.{SlotsHold, Hidden, image, rest_lines, Beside, MayTake, waiting_frame, CallerWaits, CallerSimulates, CallersSimulate, Going, SimulatesBy, source_setting, target_setting}
 use Rattle.instr_sound.proofs.Slots.{bytes_eq_same, holds_ptr, holds_word}
 use Rattle.instr_sound.proofs.Places.{There, there, function_at, code_at, first_at}
 use Rattle.instr_sound.proofs.Rows.{Gives, args_give, args_row, fill_words, fill_shadows, filled, run_args, run_params, not_ptr}
@@ -112,7 +112,7 @@ module _ (p : Program) (hosts : List HostEntry) (input : List ℕ) (k : ℕ) (g 
   first_there : There g.blocks 0
   first_there = there g.blocks 0 fits.known.some_block
 
-  -- the frame behind its parameters
+  -- the frame after its parameters
   abbrev entered : Block → Doing → Frame
   entered b d = record { function = k; insts = b.insts; term = b.term.jump; number = base; env = bind g.params vs []; owned = nothing_owned; doing = d }
 
@@ -167,7 +167,7 @@ module _ (p : Program) (hosts : List HostEntry) (input : List ℕ) (k : ℕ) (g 
     block : BlockFits p x g b
     block = block_fits p hosts g 0 b fits is_first
 
-    by_retags : (qs : List Param) → to_retag true g.params ≡ qs → (fs : List Frame) → CallersStand p hosts fs callers → Going p hosts input (entered b (entering qs)) fs count started
+    by_retags : (qs : List Param) → to_retag true g.params ≡ qs → (fs : List Frame) → CallersSimulate p hosts fs callers → Going p hosts input (entered b (entering qs)) fs count started
     by_retags [] e fs waits = record {
       code = g;
       hidden = inside;
@@ -183,13 +183,13 @@ module _ (p : Program) (hosts : List HostEntry) (input : List ℕ) (k : ℕ) (g 
       is = to_retags;
     }
 
-  pub begins : (fs : List Frame) → CallersStand p hosts fs callers → Going p hosts input (frame_of (source_setting p hosts input) k (slice_get p.functions k) vs) fs count started
+  pub begins : (fs : List Frame) → CallersSimulate p hosts fs callers → Going p hosts input (frame_of (source_setting p hosts input) k (slice_get p.functions k) vs) fs count started
   begins fs waits =
       let b = first_there in
       subst (λ f. Going p hosts input f fs count started) (sym (frame_is b.item b.is)) (by_retags b.item b.is (to_retag true g.params) refl fs waits)
 
 -- a call
-module _ (p : Program) (hosts : List HostEntry) (input : List ℕ) (all_fit : ProgramFits p hosts) (g : Function) (k n : ℕ) (tm : Jump) (env : Env) (o : Owned) (h : Hidden) (count : ℕ) (fs : List Frame) (known : slice_get p.functions k ≡ Some g) (holds : SlotsHold (scope_of p.functions hosts g) g env h.words h.shadows) (term_fits : JumpFits (scope_of p.functions hosts g) g tm) (waits : CallersStand p hosts fs h.callers) where
+module _ (p : Program) (hosts : List HostEntry) (input : List ℕ) (all_fit : ProgramFits p hosts) (g : Function) (k n : ℕ) (tm : Jump) (env : Env) (o : Owned) (h : Hidden) (count : ℕ) (fs : List Frame) (known : slice_get p.functions k ≡ Some g) (holds : SlotsHold (scope_of p.functions hosts g) g env h.words h.shadows) (term_fits : JumpFits (scope_of p.functions hosts g) g tm) (waits : CallersSimulate p hosts fs h.callers) where
   abbrev xc : Scope
   xc = scope_of p.functions hosts g
 
@@ -237,7 +237,7 @@ module _ (p : Program) (hosts : List HostEntry) (input : List ℕ) (row : Row) (
   abbrev hid : List ℕ → List (Option Prov) → Row → List TargetFrame → Hidden
   hid words shadows handed ts = record { rest = []; words = words; shadows = shadows; handed = handed; given = v; callers = ts; row = row; loaded = loaded; stored = stored; params = [] }
 
-  module _ (f : Frame) (fs : List Frame) (ts : List TargetFrame) (g : Function) (words : List ℕ) (shadows : List (Option Prov)) (handed : Row) (known : slice_get p.functions f.function ≡ Some g) (holds : SlotsHold (scope_of p.functions hosts g) g f.env words shadows) (insts_fit : Each (InstFits p (scope_of p.functions hosts g) g) f.insts) (term_fits : JumpFits (scope_of p.functions hosts g) g f.term) (waits : CallersStand p hosts fs ts) (begun : Bool) where
+  module _ (f : Frame) (fs : List Frame) (ts : List TargetFrame) (g : Function) (words : List ℕ) (shadows : List (Option Prov)) (handed : Row) (known : slice_get p.functions f.function ≡ Some g) (holds : SlotsHold (scope_of p.functions hosts g) g f.env words shadows) (insts_fit : Each (InstFits p (scope_of p.functions hosts g) g) f.insts) (term_fits : JumpFits (scope_of p.functions hosts g) g f.term) (waits : CallersSimulate p hosts fs ts) (begun : Bool) where
     abbrev xr : Scope
     xr = scope_of p.functions hosts g
 
@@ -317,7 +317,7 @@ module _ (p : Program) (hosts : List HostEntry) (input : List ℕ) (row : Row) (
         resumes (with_value r.name v f.env) (set words (slot xr r) v.value) (set shadows (slot xr r) v.prov) ls (holds_ptr xr g f.env words shadows holds r.name v takes.0 takes.1)
     wakes (Some r) (Some Ptr) (Some a) ls takes = keeps (makes_step true a.size) r a ls takes.0 takes.1 refl
 
-  wakes_by : (f : Frame) (fs : List Frame) (t : TargetFrame) (ts : List TargetFrame) (d : Doing) → CallerStands p hosts f t d → CallersStand p hosts fs ts → Going p hosts input (resumed true f d v) fs count (go_on input t.rest (back t ts))
+  wakes_by : (f : Frame) (fs : List Frame) (t : TargetFrame) (ts : List TargetFrame) (d : Doing) → CallerSimulates p hosts f t d → CallersSimulate p hosts fs ts → Going p hosts input (resumed true f d v) fs count (go_on input t.rest (back t ts))
   wakes_by f fs t ts (Waiting dest ty attr) c cs =
       let x = scope_of p.functions hosts c.code in
       let lines = result_lines (slot_of_dest x dest) ty attr (rest_lines x (f.number + 1) f.insts f.term) in
@@ -325,8 +325,8 @@ module _ (p : Program) (hosts : List HostEntry) (input : List ℕ) (row : Row) (
   wakes_by f fs t ts other c cs = absurd c
 
   -- the return of the newest frame
-  pub returns : (s : Source) (last : Frame) (fs : List Frame) (ts : List TargetFrame) (tp : TargetFrame) (begun : Bool) → s.count ≡ count → tp.result ≡ v → tp.site ≡ last.number → CallersStand p hosts fs ts
-      → StandsBy p hosts input (return_to true s last fs v) (return_by input (record { top = tp; callers = ts; row = row; loaded = loaded; stored = stored; copying = untouched; begun = begun; count = count; over = None }) ts) (return_to true s last fs v).frames
+  pub returns : (s : Source) (last : Frame) (fs : List Frame) (ts : List TargetFrame) (tp : TargetFrame) (begun : Bool) → s.count ≡ count → tp.result ≡ v → tp.site ≡ last.number → CallersSimulate p hosts fs ts
+      → SimulatesBy p hosts input (return_to true s last fs v) (return_by input (record { top = tp; callers = ts; row = row; loaded = loaded; stored = stored; copying = untouched; begun = begun; count = count; over = None }) ts) (return_to true s last fs v).frames
   returns s last [] [] tp begun ec er es cs = record {
     over = ap (λ z. Some (end.Returned z.value z.prov)) er;
     site = es;

@@ -1,4 +1,4 @@
--- A machine that goes for a thread over the text does so after each call.
+-- A machine that simulates a thread over the text does so after each call.
 use Rattle.std.specs.Prelude.{Result, Ok, Err, IfOk}
 use Rattle.std.proofs.Common.{◌≡◌, ◌<◌, ℕ, suc, List, [], ◌∷◌, Option, Some, None, true, length, refl, sym, ap, ◌∙◌, subst}
 use Rattle.history.specs.declared.ask.Arg.{Arg}
@@ -24,7 +24,7 @@ use Rattle.instrument.specs.Translation.{functions_code, translation}
 use Rattle.thread_machine.specs.Thread.{TargetSetting, Thread, row_of, thread_ask, thread_turn, thread_answer, thread_start, thread_child}
 use Rattle.thread_machine.specs.Views.{MachineView}
 use Rattle.instr_sound.specs.Fits.{ProgramFits}
-use Rattle.instr_sound.specs.Stands.{Stands, target_setting}
+use Rattle.instr_sound.specs.Simulation.{Simulates, target_setting}
 use Rattle.instr_sound.specs.Tie.{IsStep}
 use Rattle.instr_sound.specs.Sound.{SoundView, sound_view, begun, text_of, IsSound, turned, answered, started, ShowsAlike, IsOn, AskFits, SoundLaw, FitsUntyped}
 use Rattle.instr_sound.proofs.Requests.{asks_on}
@@ -38,7 +38,7 @@ fits_of : (m : SoundView) → IsSound m → ProgramFits m.program m.hosts.entrie
 fits_of m sound = accepted_fits m.program m.hosts sound.program sound.accepted
 
 abbrev Goes : SoundView → Source → Thread → Type 0
-Goes m s t = Stands m.program m.hosts.entries m.machine.setting.input s t
+Goes m s t = Simulates m.program m.hosts.entries m.machine.setting.input s t
 
 -- what a thread does in the translation's setting, it does in the machine's
 at_machine : (m : SoundView) → m.machine.setting.target ≡ translation m.hosts.entries m.program → (next : TargetSetting → Thread) (s : Source) → Goes m s (next (target_setting m.program m.hosts.entries m.machine.setting.input)) → Goes m s (next m.machine.setting)
@@ -46,7 +46,7 @@ at_machine m code next s st = subst (λ z. Goes m s (next z)) (sym (setting_is m
 
 pub shows : (m : SoundView) → IsSound m → ShowsAlike m
 shows m sound =
-    let a = alike m.program m.hosts.entries m.machine.setting.input m.state m.machine.thread sound.stands in
+    let a = alike m.program m.hosts.entries m.machine.setting.input m.state m.machine.thread sound.simulates in
     record { asks = ap (λ z. thread_ask z m.machine.thread) (setting_is m sound.code) ∙ a.asks; begins = a.begins; site = a.site; count = a.count }
 
 -- what is answered is a step
@@ -74,29 +74,29 @@ sound_law = record {
         program = program;
         accepted = accepted;
         code = code;
-        stands = subst (λ (t : Thread). Goes m m.state t) (sym thread) (subst (λ (s : Source). Goes m s (thread_start m.machine.setting k (row_of args))) (sym state) begins);
+        simulates = subst (λ (t : Thread). Goes m m.state t) (sym thread) (subst (λ (s : Source). Goes m s (thread_start m.machine.setting k (row_of args))) (sym state) begins);
         requests = subst (λ (s : Source). TopFits (text_of m) s.frames) (sym state) ((requests_fit (text_of m)).start k args);
       };
   turn = λ m sound e. record {
     program = sound.program;
     accepted = sound.accepted;
     code = sound.code;
-    stands = at_machine m sound.code (λ x. thread_turn x m.machine.thread) (source_turn (text_of m) m.state) ((tie_law m.program m.hosts.entries m.machine.setting.input (fits_of m sound)).turn m.state m.machine.thread sound.stands e);
+    simulates = at_machine m sound.code (λ x. thread_turn x m.machine.thread) (source_turn (text_of m) m.state) ((tie_law m.program m.hosts.entries m.machine.setting.input (fits_of m sound)).turn m.state m.machine.thread sound.simulates e);
     requests = (requests_fit (text_of m)).turn m.state sound.requests;
   };
   answer = λ m e sound asks fits. record {
     program = sound.program;
     accepted = sound.accepted;
     code = sound.code;
-    stands = at_machine m sound.code (λ x. thread_answer x m.machine.thread e.reply) (source_answer (text_of m) m.state e.reply)
-        ((tie_law m.program m.hosts.entries m.machine.setting.input (fits_of m sound)).answer m.state m.machine.thread e.reply sound.stands (answers_step (source_ask (text_of m) m.state) e asks));
+    simulates = at_machine m sound.code (λ x. thread_answer x m.machine.thread e.reply) (source_answer (text_of m) m.state e.reply)
+        ((tie_law m.program m.hosts.entries m.machine.setting.input (fits_of m sound)).answer m.state m.machine.thread e.reply sound.simulates (answers_step (source_ask (text_of m) m.state) e asks));
     requests = (requests_fit (text_of m)).after m.state e sound.requests asks fits;
   };
   child = λ m sound spawns. record {
     program = sound.program;
     accepted = sound.accepted;
     code = sound.code;
-    stands = at_machine m sound.code (λ x. thread_child x m.machine.thread) (source_child (text_of m) m.state) ((tie_law m.program m.hosts.entries m.machine.setting.input (fits_of m sound)).child m.state m.machine.thread sound.stands spawns);
+    simulates = at_machine m sound.code (λ x. thread_child x m.machine.thread) (source_child (text_of m) m.state) ((tie_law m.program m.hosts.entries m.machine.setting.input (fits_of m sound)).child m.state m.machine.thread sound.simulates spawns);
     requests = (requests_fit (text_of m)).child m.state;
   };
   shows = shows;

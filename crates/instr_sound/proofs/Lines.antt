@@ -1,4 +1,4 @@
--- Lines on which a test stands in the way: retags, copies, what is given up; and the retags with which a function begins.
+-- Lines on which a test decides: retags, copies, what is given up; and the retags with which a function begins.
 use Rattle.std.proofs.Common.{◌≡◌, ℕ, ◌%◌, ◌^◌, List, [], ◌∷◌, Option, Some, None, Bool, true, false, if◌then◌else◌, refl, sym, ap, ◌∙◌, subst}
 use Rattle.std.specs.Option.{option_map_or}
 use Rattle.std.proofs.lemmas.List.{set-get_or}
@@ -67,7 +67,7 @@ pop_stops input a ls t e = run_stops input line.PopFrame ls t (ap (λ z. passed 
 pub pop_passes : (input : List ℕ) (ls : List Line) (t : Thread) → release_ask t.top.owned ≡ None → run input (line.PopFrame ∷ ls) t ≡ run input ls t
 pop_passes input ls t e = run_passes input line.PopFrame ls t t (ap (λ z. passed (has_none z) t) e)
 
--- what is given back stands in the frame
+-- what is given back is in the frame
 abbrev pub result_prov : Ty → Option Prov → Option Prov → Option Prov
 result_prov (Int w) old p = old
 result_prov Ptr old p = p

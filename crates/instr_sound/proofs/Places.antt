@@ -24,7 +24,7 @@ use Rattle.target_code.specs.declared.line.Line.TheVariants as line
 use Rattle.instrument.specs.Translation.{Scope, slot, attr_of_join, for_ptr, param_lines, entry_retag, entry_retags, entry_lines, block_lines, blocks_lines, scope_of, function_code, functions_code, translation}
 use Rattle.ir_ast.specs.Lines.{block_instructions}
 use Rattle.thread_machine.specs.Thread.{lines_or_none, block_at, first_lines}
-use Rattle.instr_sound.specs.Stands.{rest_lines}
+use Rattle.instr_sound.specs.Simulation.{rest_lines}
 
 -- ---- lists
 

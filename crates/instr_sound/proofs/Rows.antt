@@ -22,7 +22,7 @@ use Rattle.instrument.specs.Translation.{Scope, slot, operand_of, shadow_of, for
 use Rattle.instrument.specs.Known.{HasRegister}
 use Rattle.thread_machine.specs.Thread.{Row, TargetFrame, Thread, row_of, word_of, shadow_at, put_at, run}
 use Rattle.instr_sound.specs.Fits.{ParamKnown}
-use Rattle.instr_sound.specs.Stands.{SlotsHold}
+use Rattle.instr_sound.specs.Simulation.{SlotsHold}
 use Rattle.instr_sound.proofs.Slots.{holds_ptr_at, holds_word_at}
 
 -- a write in a row
@@ -52,7 +52,7 @@ module _ (x : Scope) (g : Function) (env : Env) (f : TargetFrame) (holds : Slots
   operand_prov (Reg r) = holds.provs_are r.name
   operand_prov (Num n) = refl
 
--- the row behind the lines of arguments
+-- the row after the lines of arguments
 abbrev pub prov_put : Ty → List (Option Prov) → ℕ → Option Prov → List (Option Prov)
 prov_put (Int w) ps i p = ps
 prov_put Ptr ps i p = put_at ps i None p
@@ -73,7 +73,7 @@ run_args input x i [] ls t = refl
 run_args input x i (v ∷ vs) ls t =
     run_arg input v.ty x i v.val (arg_lines x (i + 1) vs ls) t ∙ run_args input x (i + 1) vs ls (record t { row = row_put t.top x i v t.row })
 
--- what stands below stays
+-- what is below stays
 args_words_below : (f : TargetFrame) (x : Scope) (i : ℕ) (vs : List TypedVal) (row : Row) (j : ℕ) → j < i → get_or (args_row f x i vs row).words j 0 ≡ get_or row.words j 0
 args_words_below f x i [] row j h = refl
 args_words_below f x i (v ∷ vs) row j h =
@@ -139,7 +139,7 @@ args_give x g env f holds i (v ∷ vs) (q ∷ qs) row e =
       args_give x g env f holds (i + 1) vs qs next (tail_types q v qs vs e),
     )
 
--- the slots behind the lines of parameters
+-- the slots after the lines of parameters
 abbrev pub shadow_set : Ty → List (Option Prov) → ℕ → Option Prov → List (Option Prov)
 shadow_set (Int w) ss s p = ss
 shadow_set Ptr ss s p = set ss s p

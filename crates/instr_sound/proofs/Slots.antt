@@ -12,7 +12,7 @@ use Rattle.source_sem.proofs.Writes.{same_name, value_in-with_value}
 use Rattle.source_sem.specs.Typing.{HasType}
 use Rattle.instrument.specs.Translation.{Scope}
 use Rattle.ir_ast.specs.Numbers.{place}
-use Rattle.instr_sound.specs.Stands.{SlotsHold}
+use Rattle.instr_sound.specs.Simulation.{SlotsHold}
 
 pub bytes_eq_same : (r : List ℕ) → bytes_eq r r ≡ true
 bytes_eq_same r = (bytes_eq-Decides r r).1 refl

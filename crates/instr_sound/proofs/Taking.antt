@@ -46,7 +46,7 @@ use Rattle.ir_ast.specs.Attributes.{guard_of}
 use Rattle.instrument.specs.Known.{HasRegister}
 use Rattle.thread_machine.specs.Thread.{TargetFrame, Thread, empty_row, word_at, word_of, shadow_at, at_lines, set_owned, set_shadow, set_result, run, go_on, cross, counted as target_counted, copy_by as target_copy, pop_by, lines_answer}
 use Rattle.instr_sound.specs.Fits.{InstFits, JumpFits, ParamFits, ProgramFits}
-use Rattle.instr_sound.specs.Stands.{SlotsHold, Hidden, image, rest_lines, copying_lines, lines_for, CopiesSome, IsCopying, Beside, MayTake, CallersStand, Going, StandsBy, source_setting}
+use Rattle.instr_sound.specs.Simulation.{SlotsHold, Hidden, image, rest_lines, copying_lines, lines_for, CopiesSome, IsCopying, Beside, MayTake, CallersSimulate, Going, SimulatesBy, source_setting}
 use Rattle.instr_sound.specs.Tie.{IsStep}
 use Rattle.instr_sound.proofs.Slots.{holds_ptr, holds_word, holds_prov, holds_ptr_at}
 use Rattle.instr_sound.proofs.Places.{join_attr_same}
@@ -100,7 +100,7 @@ some_left : (a : Option Ask) → IsStep (release_or a ask.Turn) → (b : Ask) ×
 some_left None e = absurd e
 some_left (Some b) e = (b, refl)
 
-module _ (p : Program) (hosts : List HostEntry) (input : List ℕ) (all_fit : ProgramFits p hosts) (g : Function) (k n : ℕ) (tm : Jump) (env : Env) (o : Owned) (h : Hidden) (S : Source) (fs : List Frame) (known : slice_get p.functions k ≡ Some g) (holds : SlotsHold (scope_of p.functions hosts g) g env h.words h.shadows) (term_fits : JumpFits (scope_of p.functions hosts g) g tm) (waits : CallersStand p hosts fs h.callers) (r : Reply) where
+module _ (p : Program) (hosts : List HostEntry) (input : List ℕ) (all_fit : ProgramFits p hosts) (g : Function) (k n : ℕ) (tm : Jump) (env : Env) (o : Owned) (h : Hidden) (S : Source) (fs : List Frame) (known : slice_get p.functions k ≡ Some g) (holds : SlotsHold (scope_of p.functions hosts g) g env h.words h.shadows) (term_fits : JumpFits (scope_of p.functions hosts g) g tm) (waits : CallersSimulate p hosts fs h.callers) (r : Reply) where
   abbrev x : Scope
   x = scope_of p.functions hosts g
 
@@ -116,32 +116,32 @@ module _ (p : Program) (hosts : List HostEntry) (input : List ℕ) (all_fit : Pr
   abbrev opened : List Line → Thread
   opened ls = record (at_lines (image k n o Ready S.count h) (line.Turn n ∷ ls)) { begun = false }
 
-  abbrev S1 : Source
-  S1 = counted S
+  abbrev counted_source : Source
+  counted_source = counted S
 
   abbrev top : TargetFrame
   top = (image k n o Ready S.count h).top
 
   abbrev Ok : Source → Thread → Type 0
-  Ok s T = StandsBy p hosts input s T s.frames
+  Ok s T = SimulatesBy p hosts input s T s.frames
 
   abbrev answered : Op → Option ℕ → List Inst → Thread
   answered q to is = stepped input (run input (op_lines x q to (next is)) (opened (op_lines x q to (next is)))) r
 
   abbrev taken : Op → Option Named → List Inst → List Inst → Source
-  taken q dest all is = part_answer xs S1 (fr all Ready) fs is dest (op_part xs k (suc (length fs)) env q) r
+  taken q dest all is = part_answer xs counted_source (fr all Ready) fs is dest (op_part xs k (suc (length fs)) env q) r
 
-  -- the frame behind the instruction, with these registers and what is owned
+  -- the frame after the instruction, with these registers and what is owned
   goes_on : (h' : Hidden) (is : List Inst) (env' : Env) (o' : Owned) (count : ℕ) (T : Thread) → h'.callers ≡ h.callers → Each (InstFits p x g) is → SlotsHold x g env' h'.words h'.shadows → T ≡ go_on input (next is) (image k (n + 1) o' Ready count h') → Going p hosts input (record { function = k; insts = is; term = tm; number = n + 1; env = env'; owned = o'; doing = Ready }) fs count T
   goes_on h' is env' o' count T ec fit held e = record {
     code = g;
     hidden = h';
     top = record { known = known; holds = held; insts_fit = fit; term_fits = term_fits; beside = tt };
-    callers = subst (CallersStand p hosts fs) (sym ec) waits;
+    callers = subst (CallersSimulate p hosts fs) (sym ec) waits;
     is = e;
   }
 
-  make_answers : (b : Bool) (all is : List Inst) (d : Named) (place : Place) (v : Val) (m : ℕ) → b ≡ false → HasType g d.name Ptr → HasRegister x d → Each (InstFits p x g) is → Ok (part_answer xs S1 (fr all Ready) fs is (Some d) (make_by b place m) r) (answered (op.Make place v) (Some (slot x d)) is)
+  make_answers : (b : Bool) (all is : List Inst) (d : Named) (place : Place) (v : Val) (m : ℕ) → b ≡ false → HasType g d.name Ptr → HasRegister x d → Each (InstFits p x g) is → Ok (part_answer xs counted_source (fr all Ready) fs is (Some d) (make_by b place m) r) (answered (op.Make place v) (Some (slot x d)) is)
   make_answers true all is d place v m e ty here fit = absurd cc
   make_answers false all is d place v m e ty here fit =
       let y : Arg = record { value = number_in r.plain * 2 ^ 32; prov = r.carried } in
@@ -172,7 +172,7 @@ module _ (p : Program) (hosts : List HostEntry) (input : List ℕ) (all_fit : Pr
       let y = plain_arg (number_in r.plain) in
       goes_on (record h { words = set h.words (slot x d) y.value; shadows = set h.shadows (slot x d) y.prov }) is (with_value d.name y env) o (S.count + 1) _ refl fit (holds_ptr x g env h.words h.shadows holds d.name y ty here) refl
 
-  retag_answers : (b : Bool) (all is : List Inst) (d : Named) (kd : RetagKind) (a : Named) (m : ℕ) → makes_step true m ≡ b → b ≡ true → HasType g d.name Ptr → HasRegister x d → Each (InstFits p x g) is → Ok (part_answer xs S1 (fr all Ready) fs is (Some d) (retag_part b (value_in env a.name) kd m) r) (answered (op.Retag kd a m) (Some (slot x d)) is)
+  retag_answers : (b : Bool) (all is : List Inst) (d : Named) (kd : RetagKind) (a : Named) (m : ℕ) → makes_step true m ≡ b → b ≡ true → HasType g d.name Ptr → HasRegister x d → Each (InstFits p x g) is → Ok (part_answer xs counted_source (fr all Ready) fs is (Some d) (retag_part b (value_in env a.name) kd m) r) (answered (op.Retag kd a m) (Some (slot x d)) is)
   retag_answers false all is d kd a m e t ty here fit = absurd cc
   retag_answers true all is d kd a m e t ty here fit =
       let y : Arg = record { value = (value_in env a.name).value; prov = r.carried } in
@@ -220,15 +220,15 @@ module _ (p : Program) (hosts : List HostEntry) (input : List ℕ) (all_fit : Pr
     abbrev wide : ℕ
     wide = (operand env v).value % 2 ^ 64
 
-    copies_by : (b : Bool) (doing : Doing) (c : ℕ) (pr : Progress) (T1 T2 : Thread) → copy_done wide untouched ≡ false → T1 ≡ go_on input (next is) (image k (n + 1) o Ready c h) → T2 ≡ go_on input (copy_lines d s v is) (image k n o (Copying pr) c h)
-        → Ok (copy_on (record S { count = c }) (fr copy_inst doing) fs is pr b) (if b then T1 else T2)
-    copies_by true doing c pr T1 T2 some e1 e2 = goes_on h is env o c T1 refl more holds e1
-    copies_by false doing c pr T1 T2 some e1 e2 = record {
+    copies_by : (b : Bool) (doing : Doing) (c : ℕ) (pr : Progress) (whole partly : Thread) → copy_done wide untouched ≡ false → whole ≡ go_on input (next is) (image k (n + 1) o Ready c h) → partly ≡ go_on input (copy_lines d s v is) (image k n o (Copying pr) c h)
+        → Ok (copy_on (record S { count = c }) (fr copy_inst doing) fs is pr b) (if b then whole else partly)
+    copies_by true doing c pr whole partly some ends goes = goes_on h is env o c whole refl more holds ends
+    copies_by false doing c pr whole partly some ends goes = record {
       code = g;
       hidden = h;
       top = record { known = known; holds = holds; insts_fit = (fit, more); term_fits = term_fits; beside = some };
       callers = waits;
-      is = e2;
+      is = goes;
     }
 
     target_by : (b : Bool) (t : Thread) (pr : Progress) → target_copy input t (next is) pr b ≡ (if b then go_on input (next is) (record t { copying = untouched }) else record t { copying = pr; begun = true })
@@ -244,18 +244,18 @@ module _ (p : Program) (hosts : List HostEntry) (input : List ℕ) (all_fit : Pr
         same_word (Reg q) f e = ap (λ l. get_or l (slot x q) 0) e
         same_word (Num m) f e = refl
 
-    -- the answer that a thread takes which stands at the copy's lines
+    -- the answer that a thread takes at the copy's lines
     copied_at : (doing : Doing) (c : ℕ) (pr : Progress) (t : Thread) → t.top.words ≡ h.words → copy_done wide untouched ≡ false → go_on input (next is) (record t { copying = untouched }) ≡ go_on input (next is) (image k (n + 1) o Ready c h) → record t { copying = pr; begun = true } ≡ at_lines (image k n o (Copying pr) c h) (copy_lines d s v is)
         → Ok (copied (record S { count = c }) (fr copy_inst doing) fs is wide pr) (target_copy input t (next is) pr (copy_done (word_of top (operand_of x v) % 2 ^ 64) pr))
-    copied_at doing c pr t ew some e1 e2 =
+    copied_at doing c pr t ew some ends goes =
         subst (λ z. Ok (copied (record S { count = c }) (fr copy_inst doing) fs is wide pr) (target_copy input t (next is) pr (copy_done (z % 2 ^ 64) pr))) (sym (word_is v))
         (subst (λ T. Ok (copied (record S { count = c }) (fr copy_inst doing) fs is wide pr) T) (sym (target_by (copy_done wide pr) t pr))
-        (copies_by (copy_done wide pr) doing c pr (go_on input (next is) (record t { copying = untouched })) (record t { copying = pr; begun = true }) some e1 (e2 ∙ sym (ap (cross input) (stops (image k n o (Copying pr) c h) refl some)))))
+        (copies_by (copy_done wide pr) doing c pr (go_on input (next is) (record t { copying = untouched })) (record t { copying = pr; begun = true }) some ends (goes ∙ sym (ap (cross input) (stops (image k n o (Copying pr) c h) refl some)))))
 
-    copy_answers : (b : Bool) → copy_done wide untouched ≡ b → b ≡ false → Ok (part_answer xs S1 (fr copy_inst Ready) fs is dest (copy_by b (value_in env d.name) (value_in env s.name) wide) r) (answered (op.Copy d s v) None is)
+    copy_answers : (b : Bool) → copy_done wide untouched ≡ b → b ≡ false → Ok (part_answer xs counted_source (fr copy_inst Ready) fs is dest (copy_by b (value_in env d.name) (value_in env s.name) wide) r) (answered (op.Copy d s v) None is)
     copy_answers true e t = absurd cc
     copy_answers false e t =
-        subst (λ T. Ok (copied S1 (fr copy_inst Ready) fs is wide (copy_after untouched r.plain)) T) (sym (ap (λ z. stepped input z r) (stops (opened (copy_lines d s v is)) refl e)))
+        subst (λ T. Ok (copied counted_source (fr copy_inst Ready) fs is wide (copy_after untouched r.plain)) T) (sym (ap (λ z. stepped input z r) (stops (opened (copy_lines d s v is)) refl e)))
         (copied_at Ready (S.count + 1) (copy_after untouched r.plain) (record (at_lines (opened (copy_lines d s v is)) (copy_lines d s v is)) { count = S.count + 1 }) refl e refl refl)
 
     copying_answers : (b : Bool) (pr : Progress) → copy_done wide untouched ≡ b → b ≡ false → Ok (copying_part S (fr copy_inst (Copying pr)) fs is (copy_by b (value_in env d.name) (value_in env s.name) wide) pr r) (stepped input (go_on input (copy_lines d s v is) (image k n o (Copying pr) S.count h)) r)
@@ -290,13 +290,13 @@ module _ (p : Program) (hosts : List HostEntry) (input : List ℕ) (all_fit : Pr
       by_type (Int w) = refl
       by_type Ptr = operand_prov x g env (opened ls).top holds v.val
 
-  ret_answers : (a : Ask) (v : Option TypedVal) → release_ask o ≡ Some a → Ok (leave_on true S1 (fr [] Ready) fs (returned_value env v)) (stepped input (run input (ret_lines x v (line.PopFrame ∷ line.Return ∷ [])) (opened (ret_lines x v (line.PopFrame ∷ line.Return ∷ [])))) r)
+  ret_answers : (a : Ask) (v : Option TypedVal) → release_ask o ≡ Some a → Ok (leave_on true counted_source (fr [] Ready) fs (returned_value env v)) (stepped input (run input (ret_lines x v (line.PopFrame ∷ line.Return ∷ [])) (opened (ret_lines x v (line.PopFrame ∷ line.Return ∷ [])))) r)
   ret_answers a v e =
       let pop = line.PopFrame ∷ line.Return ∷ [] in
       let ls = ret_lines x v pop in
       let t0 = opened ls in
       let runs = run_ret input x v pop t0 ∙ ap (λ z. run input pop (set_result t0 z)) (value_is ls v) ∙ pop_stops input a (line.Return ∷ []) (set_result t0 (returned_value env v)) e in
-      subst (λ T. Ok (leave_on true S1 (fr [] Ready) fs (returned_value env v)) (stepped input T r)) (sym runs)
+      subst (λ T. Ok (leave_on true counted_source (fr [] Ready) fs (returned_value env v)) (stepped input T r)) (sym runs)
       (leaves (release_ask (released o)) (S.count + 1) false Ready [] (returned_value env v) tt refl)
 
   leaving_answers : (a : Ask) (v : Arg) (is : List Inst) → Each (InstFits p x g) is → release_ask o ≡ Some a → Ok (leave_on true S (fr is (Leaving v)) fs v) (stepped input (go_on input (line.PopFrame ∷ line.Return ∷ []) (image k n o (Leaving v) S.count h)) r)
@@ -380,13 +380,13 @@ module _ (p : Program) (hosts : List HostEntry) (input : List ℕ) (all_fit : Pr
   inst_answers is (Some d) at q fit more e = some_answers is (record { dest = Some d; at = at; op = q } ∷ is) d at q fit more e
   inst_answers is None at q fit more e = none_answers is at q fit more e
 
-  term_answers : (j : Jump) → IsStep (term_ask (fr [] Ready) j) → Ok (term_answer true S1 (fr [] Ready) fs j) (stepped input (run input (jump_lines x j) (opened (jump_lines x j))) r)
+  term_answers : (j : Jump) → IsStep (term_ask (fr [] Ready) j) → Ok (term_answer true counted_source (fr [] Ready) fs j) (stepped input (run input (jump_lines x j) (opened (jump_lines x j))) r)
   term_answers (jump.Br goal) e = absurd e
   term_answers (jump.CondBr v first second) e = absurd e
   term_answers (jump.Ret v at) e = let a = some_left (release_ask o) e in ret_answers a.0 v a.1
   term_answers jump.Unreachable e = absurd e
 
-  ready_answers : (is : List Inst) → Each (InstFits p x g) is → IsStep (ready_ask xs (fr is Ready) (suc (length fs)) is) → Ok (ready_answer xs S1 (fr is Ready) fs is r) (stepped input (go_on input (rest_lines x n is tm) (image k n o Ready S.count h)) r)
+  ready_answers : (is : List Inst) → Each (InstFits p x g) is → IsStep (ready_ask xs (fr is Ready) (suc (length fs)) is) → Ok (ready_answer xs counted_source (fr is Ready) fs is r) (stepped input (go_on input (rest_lines x n is tm) (image k n o Ready S.count h)) r)
   ready_answers [] fit e = term_answers tm e
   ready_answers (i ∷ is) fit e = inst_answers is i.dest i.at i.op fit.0 fit.1 e
 

@@ -44,7 +44,7 @@ use Rattle.instrument.specs.Translation.{Scope, scope_of, slot, for_ptr, operand
 use Rattle.instrument.specs.Known.{HasRegister, HasGoal}
 use Rattle.thread_machine.specs.Thread.{Thread, TargetFrame, word_at, prov_of, word_of, shadow_at, operand_at, set_word, with_value as slot_value, at_lines, run, go_on, past_jump, jumped, thread_turn}
 use Rattle.instr_sound.specs.Fits.{InstFits, JumpFits, FunctionFits}
-use Rattle.instr_sound.specs.Stands.{SlotsHold, Hidden, image, rest_lines, CallersStand, Going, source_setting, target_setting}
+use Rattle.instr_sound.specs.Simulation.{SlotsHold, Hidden, image, rest_lines, CallersSimulate, Going, source_setting, target_setting}
 use Rattle.instr_sound.proofs.Slots.{one_place, holds_word_at, holds_ptr_at}
 use Rattle.instr_sound.proofs.Places.{there, code_at}
 use Rattle.instr_sound.proofs.Rows.{operand_word, operand_prov, args_row, run_args, run_takes, args_give, fill_words, fill_shadows, filled}
@@ -102,13 +102,13 @@ chosen_prov : (n : ℕ) (a b : Arg) → chosen n a.prov b.prov ≡ (chosen n a b
 chosen_prov zero a b = refl
 chosen_prov (suc n) a b = refl
 
-module _ (p : Program) (hosts : List HostEntry) (input : List ℕ) (g : Function) (k n : ℕ) (tm : Jump) (env : Env) (o : Owned) (h : Hidden) (count : ℕ) (fs : List Frame) (known : slice_get p.functions k ≡ Some g) (holds : SlotsHold (scope_of p.functions hosts g) g env h.words h.shadows) (term_fits : JumpFits (scope_of p.functions hosts g) g tm) (waits : CallersStand p hosts fs h.callers) where
+module _ (p : Program) (hosts : List HostEntry) (input : List ℕ) (g : Function) (k n : ℕ) (tm : Jump) (env : Env) (o : Owned) (h : Hidden) (count : ℕ) (fs : List Frame) (known : slice_get p.functions k ≡ Some g) (holds : SlotsHold (scope_of p.functions hosts g) g env h.words h.shadows) (term_fits : JumpFits (scope_of p.functions hosts g) g tm) (waits : CallersSimulate p hosts fs h.callers) where
   abbrev x : Scope
   x = scope_of p.functions hosts g
 
-  -- the frame behind an instruction
-  abbrev pub behind : List Inst → Env → Frame
-  behind is env' = record { function = k; insts = is; term = tm; number = n + 1; env = env'; owned = o; doing = Ready }
+  -- the frame after an instruction
+  abbrev pub next_frame : List Inst → Env → Frame
+  next_frame is env' = record { function = k; insts = is; term = tm; number = n + 1; env = env'; owned = o; doing = Ready }
 
   abbrev next : List Inst → List Line
   next is = rest_lines x (n + 1) is tm
@@ -126,7 +126,7 @@ module _ (p : Program) (hosts : List HostEntry) (input : List ℕ) (g : Function
   word_is v = operand_word x g env top holds v
 
   -- the thread in front of the next instruction, with these slots
-  turns_to : (is : List Inst) (env' : Env) (ws : List ℕ) (ss : List (Option Prov)) (T : Thread) → Each (InstFits p x g) is → SlotsHold x g env' ws ss → T ≡ go_on input (next is) (image k (n + 1) o Ready (count + 1) (record h { words = ws; shadows = ss })) → Going p hosts input (behind is env') fs (count + 1) T
+  turns_to : (is : List Inst) (env' : Env) (ws : List ℕ) (ss : List (Option Prov)) (T : Thread) → Each (InstFits p x g) is → SlotsHold x g env' ws ss → T ≡ go_on input (next is) (image k (n + 1) o Ready (count + 1) (record h { words = ws; shadows = ss })) → Going p hosts input (next_frame is env') fs (count + 1) T
   turns_to is env' ws ss T fit held e = record {
     code = g;
     hidden = record h { words = ws; shadows = ss };
@@ -136,33 +136,33 @@ module _ (p : Program) (hosts : List HostEntry) (input : List ℕ) (g : Function
   }
 
   -- a word is written
-  word_turns : (is : List Inst) (r : Named) (v : Arg) (m : ℕ) (T : Thread) → Each (InstFits p x g) is → (HasType g r.name Ptr → ⊥) → HasRegister x r → m ≡ v.value → v.prov ≡ None → T ≡ go_on input (next is) (image k (n + 1) o Ready (count + 1) (record h { words = set h.words (slot x r) m })) → Going p hosts input (behind is (with_value r.name v env)) fs (count + 1) T
+  word_turns : (is : List Inst) (r : Named) (v : Arg) (m : ℕ) (T : Thread) → Each (InstFits p x g) is → (HasType g r.name Ptr → ⊥) → HasRegister x r → m ≡ v.value → v.prov ≡ None → T ≡ go_on input (next is) (image k (n + 1) o Ready (count + 1) (record h { words = set h.words (slot x r) m })) → Going p hosts input (next_frame is (with_value r.name v env)) fs (count + 1) T
   word_turns is r v m T fit never here em none e =
       turns_to is (with_value r.name v env) (set h.words (slot x r) m) h.shadows T fit (holds_word_at x g env h.words h.shadows holds r.name never here m v em none) e
 
   -- a pointer is written
-  ptr_turns : (is : List Inst) (r : Named) (v : Arg) (m : ℕ) (q : Option Prov) (T : Thread) → Each (InstFits p x g) is → HasType g r.name Ptr → HasRegister x r → m ≡ v.value → q ≡ v.prov → T ≡ go_on input (next is) (image k (n + 1) o Ready (count + 1) (record h { words = set h.words (slot x r) m; shadows = set h.shadows (slot x r) q })) → Going p hosts input (behind is (with_value r.name v env)) fs (count + 1) T
+  ptr_turns : (is : List Inst) (r : Named) (v : Arg) (m : ℕ) (q : Option Prov) (T : Thread) → Each (InstFits p x g) is → HasType g r.name Ptr → HasRegister x r → m ≡ v.value → q ≡ v.prov → T ≡ go_on input (next is) (image k (n + 1) o Ready (count + 1) (record h { words = set h.words (slot x r) m; shadows = set h.shadows (slot x r) q })) → Going p hosts input (next_frame is (with_value r.name v env)) fs (count + 1) T
   ptr_turns is r v m q T fit ty here em eq e =
       turns_to is (with_value r.name v env) (set h.words (slot x r) m) (set h.shadows (slot x r) q) T fit (holds_ptr_at x g env h.words h.shadows holds r.name ty here m q v em eq) e
 
-  pub const_turns : (r : Named) (w : Width) (m : ℕ) (is : List Inst) → HasType g r.name (Int w) → HasRegister x r → Each (InstFits p x g) is → Going p hosts input (behind is (with_value r.name (plain_arg (m % 2 ^ bits w)) env)) fs (count + 1) (turned (op.Const w m) (Some (slot x r)) is)
+  pub const_turns : (r : Named) (w : Width) (m : ℕ) (is : List Inst) → HasType g r.name (Int w) → HasRegister x r → Each (InstFits p x g) is → Going p hosts input (next_frame is (with_value r.name (plain_arg (m % 2 ^ bits w)) env)) fs (count + 1) (turned (op.Const w m) (Some (slot x r)) is)
   const_turns r w m is ty here fit = word_turns is r (plain_arg (m % 2 ^ bits w)) (m % 2 ^ bits w) _ fit (int_not_ptr g r.name w ty) here refl refl refl
 
-  pub null_turns : (r : Named) (is : List Inst) → HasType g r.name Ptr → HasRegister x r → Each (InstFits p x g) is → Going p hosts input (behind is (with_value r.name blank env)) fs (count + 1) (turned op.Null (Some (slot x r)) is)
+  pub null_turns : (r : Named) (is : List Inst) → HasType g r.name Ptr → HasRegister x r → Each (InstFits p x g) is → Going p hosts input (next_frame is (with_value r.name blank env)) fs (count + 1) (turned op.Null (Some (slot x r)) is)
   null_turns r is ty here fit = ptr_turns is r blank 0 None _ fit ty here refl refl refl
 
-  pub gep_turns : (r a : Named) (v : Val) (is : List Inst) → HasType g r.name Ptr → HasRegister x r → Each (InstFits p x g) is → Going p hosts input (behind is (with_value r.name (moved (value_in env a.name) (operand env v)) env)) fs (count + 1) (turned (op.Gep a v) (Some (slot x r)) is)
+  pub gep_turns : (r a : Named) (v : Val) (is : List Inst) → HasType g r.name Ptr → HasRegister x r → Each (InstFits p x g) is → Going p hosts input (next_frame is (with_value r.name (moved (value_in env a.name) (operand env v)) env)) fs (count + 1) (turned (op.Gep a v) (Some (slot x r)) is)
   gep_turns r a v is ty here fit =
       ptr_turns is r (moved (value_in env a.name) (operand env v)) ((word_at top (slot x a) + word_of top (operand_of x v)) % 2 ^ 64) (prov_of top (slot x a)) _ fit ty here
       (ap (λ z. (z + word_of top (operand_of x v)) % 2 ^ 64) (holds.words_are a.name) ∙ ap (λ z. ((value_in env a.name).value + z) % 2 ^ 64) (word_is v)) (holds.provs_are a.name) refl
 
-  pub retag_turns : (r : Named) (kd : RetagKind) (a : Named) (m : ℕ) (is : List Inst) → makes_step true m ≡ false → HasType g r.name Ptr → HasRegister x r → Each (InstFits p x g) is → Going p hosts input (behind is (with_value r.name (value_in env a.name) env)) fs (count + 1) (turned (op.Retag kd a m) (Some (slot x r)) is)
+  pub retag_turns : (r : Named) (kd : RetagKind) (a : Named) (m : ℕ) (is : List Inst) → makes_step true m ≡ false → HasType g r.name Ptr → HasRegister x r → Each (InstFits p x g) is → Going p hosts input (next_frame is (with_value r.name (value_in env a.name) env)) fs (count + 1) (turned (op.Retag kd a m) (Some (slot x r)) is)
   retag_turns r kd a m is never ty here fit =
       let ls = op_lines x (op.Retag kd a m) (Some (slot x r)) (next is) in
       ptr_turns is r (value_in env a.name) (word_at top (slot x a)) (prov_of top (slot x a)) _ fit ty here (holds.words_are a.name) (holds.provs_are a.name)
       (ap (thread_turn (target_setting p hosts input)) (retag_passes input (slot x r) kd Free (slot x a) (slot x a) m (line.Move (slot x r) (slot x a) ∷ next is) (opened ls) never))
 
-  pub binary_turns : (r : Named) (bo : BinaryOp) (w : Width) (a b : Val) (m : ℕ) (is : List Inst) → binary_part bo w (operand env a) (operand env b) ≡ Gives (Some (plain_arg m)) → HasType g r.name (Int w) → HasRegister x r → Each (InstFits p x g) is → Going p hosts input (behind is (with_value r.name (plain_arg m) env)) fs (count + 1) (turned (op.Binary bo w a b) (Some (slot x r)) is)
+  pub binary_turns : (r : Named) (bo : BinaryOp) (w : Width) (a b : Val) (m : ℕ) (is : List Inst) → binary_part bo w (operand env a) (operand env b) ≡ Gives (Some (plain_arg m)) → HasType g r.name (Int w) → HasRegister x r → Each (InstFits p x g) is → Going p hosts input (next_frame is (with_value r.name (plain_arg m) env)) fs (count + 1) (turned (op.Binary bo w a b) (Some (slot x r)) is)
   binary_turns r bo w a b m is e ty here fit =
       let ls = op_lines x (op.Binary bo w a b) (Some (slot x r)) (next is) in
       let same : binary_part bo w (operand_at top (operand_of x a)) (operand_at top (operand_of x b)) ≡ Gives (Some (plain_arg m)) =
@@ -170,19 +170,19 @@ module _ (p : Program) (hosts : List HostEntry) (input : List ℕ) (g : Function
       word_turns is r (plain_arg m) m _ fit (int_not_ptr g r.name w ty) here refl refl
       (ap (thread_turn (target_setting p hosts input)) (run_passes input (line.Binary (slot x r) bo w (operand_of x a) (operand_of x b)) (next is) (opened ls) (set_word (opened ls) (slot x r) m) (ap (λ z. slot_value z (opened ls) (slot x r)) same)))
 
-  pub compare_turns : (r : Named) (c : Cond) (ty : Ty) (a b : Val) (is : List Inst) → HasType g r.name (Int W8) → HasRegister x r → Each (InstFits p x g) is → Going p hosts input (behind is (with_value r.name (compared c ty (operand env a) (operand env b)) env)) fs (count + 1) (turned (op.Compare c ty a b) (Some (slot x r)) is)
+  pub compare_turns : (r : Named) (c : Cond) (ty : Ty) (a b : Val) (is : List Inst) → HasType g r.name (Int W8) → HasRegister x r → Each (InstFits p x g) is → Going p hosts input (next_frame is (with_value r.name (compared c ty (operand env a) (operand env b)) env)) fs (count + 1) (turned (op.Compare c ty a b) (Some (slot x r)) is)
   compare_turns r c ty a b is t here fit =
       word_turns is r (compared c ty (operand env a) (operand env b)) (compared c ty (operand_at top (operand_of x a)) (operand_at top (operand_of x b))).value _ fit (int_not_ptr g r.name W8 t) here
       (ap (λ z. (compared c ty (plain_arg z) (operand_at top (operand_of x b))).value) (word_is a) ∙ ap (λ z. (compared c ty (operand env a) (plain_arg z)).value) (word_is b)) refl refl
 
-  pub cast_turns : (r : Named) (c : CastOp) (v w : Width) (a : Val) (at : ℕ) (is : List Inst) → HasType g r.name (Int w) → HasRegister x r → Each (InstFits p x g) is → Going p hosts input (behind is (with_value r.name (cast_arg c v w (operand env a)) env)) fs (count + 1) (turned (op.Cast c v w a at) (Some (slot x r)) is)
+  pub cast_turns : (r : Named) (c : CastOp) (v w : Width) (a : Val) (at : ℕ) (is : List Inst) → HasType g r.name (Int w) → HasRegister x r → Each (InstFits p x g) is → Going p hosts input (next_frame is (with_value r.name (cast_arg c v w (operand env a)) env)) fs (count + 1) (turned (op.Cast c v w a at) (Some (slot x r)) is)
   cast_turns r c v w a at is t here fit =
       word_turns is r (cast_arg c v w (operand env a)) (cast_arg c v w (operand_at top (operand_of x a))).value _ fit (int_not_ptr g r.name w t) here (ap (λ z. (cast_arg c v w (plain_arg z)).value) (word_is a)) refl refl
 
-  pub address_turns : (r a : Named) (is : List Inst) → HasType g r.name (Int W64) → HasRegister x r → Each (InstFits p x g) is → Going p hosts input (behind is (with_value r.name (plain_arg (value_in env a.name).value) env)) fs (count + 1) (turned (op.PtrToInt a) (Some (slot x r)) is)
+  pub address_turns : (r a : Named) (is : List Inst) → HasType g r.name (Int W64) → HasRegister x r → Each (InstFits p x g) is → Going p hosts input (next_frame is (with_value r.name (plain_arg (value_in env a.name).value) env)) fs (count + 1) (turned (op.PtrToInt a) (Some (slot x r)) is)
   address_turns r a is t here fit = word_turns is r (plain_arg (value_in env a.name).value) (word_at top (slot x a)) _ fit (int_not_ptr g r.name W64 t) here (holds.words_are a.name) refl refl
 
-  pub input_turns : (r : Named) (v : Val) (is : List Inst) → HasType g r.name (Int W64) → HasRegister x r → Each (InstFits p x g) is → Going p hosts input (behind is (with_value r.name (input_arg input (operand env v)) env)) fs (count + 1) (turned (op.Input v) (Some (slot x r)) is)
+  pub input_turns : (r : Named) (v : Val) (is : List Inst) → HasType g r.name (Int W64) → HasRegister x r → Each (InstFits p x g) is → Going p hosts input (next_frame is (with_value r.name (input_arg input (operand env v)) env)) fs (count + 1) (turned (op.Input v) (Some (slot x r)) is)
   input_turns r v is t here fit =
       word_turns is r (input_arg input (operand env v)) (input_arg input (operand_at top (operand_of x v))).value _ fit (int_not_ptr g r.name W64 t) here (ap (λ z. (input_arg input (plain_arg z)).value) (word_is v)) refl refl
 
@@ -202,7 +202,7 @@ module _ (p : Program) (hosts : List HostEntry) (input : List ℕ) (g : Function
   cond_kept (Reg q) r m tc tr here = get_or-set_other h.words (slot x r) (slot x q) m 0 (apart q r W8 tc tr here)
   cond_kept (Num i) r m tc tr here = refl
 
-  pub select_turns : (ty : Ty) (r : Named) (c a b : Val) (is : List Inst) → OperandTyped g (Int W8) c → HasType g r.name ty → HasRegister x r → Each (InstFits p x g) is → Going p hosts input (behind is (with_value r.name (cut_at ty (chosen (operand env c).value (operand env a) (operand env b))) env)) fs (count + 1) (turned (op.Select ty c a b) (Some (slot x r)) is)
+  pub select_turns : (ty : Ty) (r : Named) (c a b : Val) (is : List Inst) → OperandTyped g (Int W8) c → HasType g r.name ty → HasRegister x r → Each (InstFits p x g) is → Going p hosts input (next_frame is (with_value r.name (cut_at ty (chosen (operand env c).value (operand env a) (operand env b))) env)) fs (count + 1) (turned (op.Select ty c a b) (Some (slot x r)) is)
   select_turns (Int w) r c a b is tc t here fit =
       let m = at_width (Int w) (chosen (word_of top (operand_of x c)) (word_of top (operand_of x a)) (word_of top (operand_of x b))) in
       word_turns is r (cut_at (Int w) (chosen (operand env c).value (operand env a) (operand env b))) m _ fit (int_not_ptr g r.name w t) here (select_word (Int w) c a b) refl refl
@@ -221,7 +221,7 @@ module _ (p : Program) (hosts : List HostEntry) (input : List ℕ) (g : Function
           ≡ go_on input (next is) (image k (n + 1) o Ready (count + 1) (record h { words = set h.words (slot x r) m; shadows = set h.shadows (slot x r) q }))
       select_runs a b m q e = ap (λ z. go_on input (next is) (image k (n + 1) o Ready (count + 1) (record h { words = set h.words (slot x r) m; shadows = set h.shadows (slot x r) z }))) e
 
-  pub copy_turns : (to : Option ℕ) (d s : Named) (v : Val) (is : List Inst) → copy_done ((operand env v).value % 2 ^ 64) untouched ≡ true → Each (InstFits p x g) is → Going p hosts input (behind is env) fs (count + 1) (turned (op.Copy d s v) to is)
+  pub copy_turns : (to : Option ℕ) (d s : Named) (v : Val) (is : List Inst) → copy_done ((operand env v).value % 2 ^ 64) untouched ≡ true → Each (InstFits p x g) is → Going p hosts input (next_frame is env) fs (count + 1) (turned (op.Copy d s v) to is)
   copy_turns to d s v is e fit =
       let ls = op_lines x (op.Copy d s v) to (next is) in
       turns_to is env h.words h.shadows _ fit holds

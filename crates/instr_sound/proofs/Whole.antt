@@ -43,7 +43,7 @@ use Rattle.instrument.proofs.Accepted.{accepted_known}
 use Rattle.instrument.proofs.Ends.{each_got}
 use Rattle.thread_machine.specs.Thread.{Row, Thread, row_of, at_lines, with_value, unless_step, passed, has_none, silent, run, go_on, cross, begins_by, thread_begins, thread_site, counted_unless, counted as target_counted, answer_by, thread_answer, thread_start, thread_child}
 use Rattle.instr_sound.specs.Fits.{InstFits, ProgramFits}
-use Rattle.instr_sound.specs.Stands.{SlotsHold, Hidden, image, rest_lines, lines_for, CopiesSome, Beside, Going, StandsBy, Stands, source_setting, target_setting}
+use Rattle.instr_sound.specs.Simulation.{SlotsHold, Hidden, image, rest_lines, lines_for, CopiesSome, Beside, Going, SimulatesBy, Simulates, source_setting, target_setting}
 use Rattle.thread_machine.specs.Views.{IsSpawn}
 use Rattle.instr_sound.specs.Tie.{IsStep, Alike, TieLaw}
 use Rattle.instr_sound.proofs.Places.{there}
@@ -188,20 +188,20 @@ begins_as : (d : Doing) → begins_by None (begun_by d) ≡ is_ready d
 begins_as Ready = refl
 begins_as other = refl
 
-begins_same : (p : Program) (hosts : List HostEntry) (input : List ℕ) (s : Source) (t : Thread) (frames : List Frame) → StandsBy p hosts input s t frames → thread_begins t ≡ frames_begin frames
+begins_same : (p : Program) (hosts : List HostEntry) (input : List ℕ) (s : Source) (t : Thread) (frames : List Frame) → SimulatesBy p hosts input s t frames → thread_begins t ≡ frames_begin frames
 begins_same p hosts input s t [] st = ap (λ z. begins_by z t.begun) st.over
 begins_same p hosts input s t (f ∷ fs) st =
     let h = shows p hosts input f fs s.count t st in ap (λ z. begins_by z t.begun) h.over ∙ ap (begins_by None) h.begun ∙ begins_as f.doing
 
-site_same : (p : Program) (hosts : List HostEntry) (input : List ℕ) (s : Source) (t : Thread) (frames : List Frame) → StandsBy p hosts input s t frames → thread_site t ≡ frames_site frames s.last
+site_same : (p : Program) (hosts : List HostEntry) (input : List ℕ) (s : Source) (t : Thread) (frames : List Frame) → SimulatesBy p hosts input s t frames → thread_site t ≡ frames_site frames s.last
 site_same p hosts input s t [] st = st.site
 site_same p hosts input s t (f ∷ fs) st = (shows p hosts input f fs s.count t st).site
 
-count_same : (p : Program) (hosts : List HostEntry) (input : List ℕ) (s : Source) (t : Thread) (frames : List Frame) → StandsBy p hosts input s t frames → t.count ≡ s.count
+count_same : (p : Program) (hosts : List HostEntry) (input : List ℕ) (s : Source) (t : Thread) (frames : List Frame) → SimulatesBy p hosts input s t frames → t.count ≡ s.count
 count_same p hosts input s t [] st = st.count
 count_same p hosts input s t (f ∷ fs) st = (shows p hosts input f fs s.count t st).count_is
 
-pub alike : (p : Program) (hosts : List HostEntry) (input : List ℕ) (s : Source) (t : Thread) → Stands p hosts input s t → Alike p hosts input s t
+pub alike : (p : Program) (hosts : List HostEntry) (input : List ℕ) (s : Source) (t : Thread) → Simulates p hosts input s t → Alike p hosts input s t
 alike p hosts input s t st = record {
   asks = asks p hosts input s t st;
   begins = begins_same p hosts input s t s.frames st;
@@ -223,24 +223,24 @@ counted_count (Waiting dest ty attr) s t eb ec = ap (λ b. (counted_unless b t).
 counted_count (Retagging dest v a) s t eb ec = ap (λ b. (counted_unless b t).count) eb ∙ ec
 counted_count (Leaving v) s t eb ec = ap (λ b. (counted_unless b t).count) eb ∙ ec
 
-answers_by : (p : Program) (hosts : List HostEntry) (input : List ℕ) → ProgramFits p hosts → (s : Source) (t : Thread) (frames : List Frame) (e : Option Trap) (r : Reply) → StandsBy p hosts input s t frames → IsStep (frames_ask (source_setting p hosts input) frames s.over)
-    → StandsBy p hosts input (frames_answer (source_setting p hosts input) (counted_if (frames_begin frames) s) frames e r) (answer_by input (target_counted t) e r) (frames_answer (source_setting p hosts input) (counted_if (frames_begin frames) s) frames e r).frames
+answers_by : (p : Program) (hosts : List HostEntry) (input : List ℕ) → ProgramFits p hosts → (s : Source) (t : Thread) (frames : List Frame) (e : Option Trap) (r : Reply) → SimulatesBy p hosts input s t frames → IsStep (frames_ask (source_setting p hosts input) frames s.over)
+    → SimulatesBy p hosts input (frames_answer (source_setting p hosts input) (counted_if (frames_begin frames) s) frames e r) (answer_by input (target_counted t) e r) (frames_answer (source_setting p hosts input) (counted_if (frames_begin frames) s) frames e r).frames
 answers_by p hosts input fits s t [] e r st step = absurd step
 answers_by p hosts input fits s t (f ∷ fs) (Some e) r st step =
     let h = shows p hosts input f fs s.count t st in
     record { over = refl; site = counted_site t.begun t ∙ h.site; count = counted_count f.doing s t h.begun h.count_is }
 answers_by p hosts input fits s t (f ∷ fs) None r st step =
-    subst (λ u. StandsBy p hosts input (doing_answer (source_setting p hosts input) (counted_if (is_ready f.doing) s) f fs f.doing r) (stepped input u r) (doing_answer (source_setting p hosts input) (counted_if (is_ready f.doing) s) f fs f.doing r).frames) (sym st.is)
+    subst (λ u. SimulatesBy p hosts input (doing_answer (source_setting p hosts input) (counted_if (is_ready f.doing) s) f fs f.doing r) (stepped input u r) (doing_answer (source_setting p hosts input) (counted_if (is_ready f.doing) s) f fs f.doing r).frames) (sym st.is)
     (doing_answers p hosts input fits st.code f.function f.number f.term f.env f.owned st.hidden s fs st.top.known st.top.holds st.top.term_fits st.callers r f.insts f.doing st.top.insts_fit st.top.beside step)
 
--- an answer keeps that the target thread stands for the source thread
-pub answers : (p : Program) (hosts : List HostEntry) (input : List ℕ) → ProgramFits p hosts → (s : Source) (t : Thread) (r : Reply) → Stands p hosts input s t → IsStep (source_ask (source_setting p hosts input) s) → Stands p hosts input (source_answer (source_setting p hosts input) s r) (thread_answer (target_setting p hosts input) t r)
+-- an answer keeps that the target thread simulates the source thread
+pub answers : (p : Program) (hosts : List HostEntry) (input : List ℕ) → ProgramFits p hosts → (s : Source) (t : Thread) (r : Reply) → Simulates p hosts input s t → IsStep (source_ask (source_setting p hosts input) s) → Simulates p hosts input (source_answer (source_setting p hosts input) s r) (thread_answer (target_setting p hosts input) t r)
 answers p hosts input fits s t r st step = answers_by p hosts input fits s t s.frames (trap_of r.plain) r st step
 
 -- ---- starts
 
--- a new thread stands for the source thread that starts with the arguments that its row gives
-pub starts : (p : Program) (hosts : List HostEntry) (input : List ℕ) → ProgramFits p hosts → (k : ℕ) (g : Function) (row : Row) (vs : List Arg) → slice_get p.functions k ≡ Some g → GivesArgs row 0 g.params vs → Stands p hosts input (source_start (source_setting p hosts input) k vs) (thread_start (target_setting p hosts input) k row)
+-- a new thread simulates the source thread that starts with the arguments that its row gives
+pub starts : (p : Program) (hosts : List HostEntry) (input : List ℕ) → ProgramFits p hosts → (k : ℕ) (g : Function) (row : Row) (vs : List Arg) → slice_get p.functions k ≡ Some g → GivesArgs row 0 g.params vs → Simulates p hosts input (source_start (source_setting p hosts input) k vs) (thread_start (target_setting p hosts input) k row)
 starts p hosts input fits k g row vs known gives = begins p hosts input k g (fits k g known) known row vs gives None None [] 0 [] tt
 
 -- ---- children
@@ -300,7 +300,7 @@ module _ (p : Program) (hosts : List HostEntry) (input : List ℕ) (fits : Progr
   abbrev opened : List Line → Thread
   opened ls = record (at_lines (image k n o Ready count h) (line.Turn n ∷ ls)) { begun = false }
 
-  spawn_children : (is : List Inst) (d : Option Named) (at : ℕ) (f : Named) (args : List TypedVal) → InstFits p y g (record { dest = d; at = at; op = op.Spawn f args }) → Stands p hosts input (source_start xs (function_place p.functions f.name) (args_of env args)) (thread_child (target_setting p hosts input) (run input (op_lines y (op.Spawn f args) (slot_of_dest y d) (next is)) (opened (op_lines y (op.Spawn f args) (slot_of_dest y d) (next is)))))
+  spawn_children : (is : List Inst) (d : Option Named) (at : ℕ) (f : Named) (args : List TypedVal) → InstFits p y g (record { dest = d; at = at; op = op.Spawn f args }) → Simulates p hosts input (source_start xs (function_place p.functions f.name) (args_of env args)) (thread_child (target_setting p hosts input) (run input (op_lines y (op.Spawn f args) (slot_of_dest y d) (next is)) (opened (op_lines y (op.Spawn f args) (slot_of_dest y d) (next is)))))
   spawn_children is d at f args fit =
       let callee = fit.0.operands.1 in
       let k' = function_place p.functions f.name in
@@ -308,10 +308,10 @@ module _ (p : Program) (hosts : List HostEntry) (input : List ℕ) (fits : Progr
       let t = opened (arg_lines y 0 args ls) in
       let row = args_row t.top y 0 args h.row in
       let e = ap (thread_child (target_setting p hosts input)) (run_args input y 0 args ls t) in
-      subst (λ T. Stands p hosts input (source_start xs k' (args_of env args)) T) (sym e)
+      subst (λ T. Simulates p hosts input (source_start xs k' (args_of env args)) T) (sym e)
       (starts p hosts input fits k' callee.0 row (args_of env args) callee.1.0 (args_give y g env t.top holds 0 args callee.0.params h.row callee.1.1))
 
-  op_children : (is : List Inst) (d : Option Named) (at : ℕ) (q : Op) → InstFits p y g (record { dest = d; at = at; op = q }) → IsSpawn (part_ask (op_part xs k (suc (length fs)) env q)) → Stands p hosts input (part_child xs (op_part xs k (suc (length fs)) env q)) (thread_child (target_setting p hosts input) (run input (op_lines y q (slot_of_dest y d) (next is)) (opened (op_lines y q (slot_of_dest y d) (next is)))))
+  op_children : (is : List Inst) (d : Option Named) (at : ℕ) (q : Op) → InstFits p y g (record { dest = d; at = at; op = q }) → IsSpawn (part_ask (op_part xs k (suc (length fs)) env q)) → Simulates p hosts input (part_child xs (op_part xs k (suc (length fs)) env q)) (thread_child (target_setting p hosts input) (run input (op_lines y q (slot_of_dest y d) (next is)) (opened (op_lines y q (slot_of_dest y d) (next is)))))
   op_children is d at (op.Spawn f args) fit e = spawn_children is d at f args fit
   op_children is d at (op.Make pl v) fit e = absurd (make_no_spawn _ pl _ e)
   op_children is d at (op.Retag kd a m) fit e = absurd (retag_no_spawn (makes_step true m) _ kd m e)
@@ -326,7 +326,7 @@ module _ (p : Program) (hosts : List HostEntry) (input : List ℕ) (fits : Progr
   term_no_spawn is (jump.Ret v at) e = release_no_spawn o.children o.protectors o.stack ask.Turn (λ z. z) e
   term_no_spawn is jump.Unreachable e = e
 
-  ready_children : (is : List Inst) → Each (InstFits p y g) is → IsSpawn (ready_ask xs (fr is Ready) (suc (length fs)) is) → Stands p hosts input (insts_child xs (fr is Ready) (suc (length fs)) is) (thread_child (target_setting p hosts input) (go_on input (rest_lines y n is tm) (image k n o Ready count h)))
+  ready_children : (is : List Inst) → Each (InstFits p y g) is → IsSpawn (ready_ask xs (fr is Ready) (suc (length fs)) is) → Simulates p hosts input (insts_child xs (fr is Ready) (suc (length fs)) is) (thread_child (target_setting p hosts input) (go_on input (rest_lines y n is tm) (image k n o Ready count h)))
   ready_children [] fit e = absurd (term_no_spawn [] tm e)
   ready_children (i ∷ is) fit e = op_children is i.dest i.at i.op fit.0 e
 
@@ -334,7 +334,7 @@ module _ (p : Program) (hosts : List HostEntry) (input : List ℕ) (fits : Progr
   copying_children [] pr e = e
   copying_children (i ∷ is) pr e = copying_no_spawn (op_part xs k (suc (length fs)) env i.op) pr e
 
-  doing_children : (is : List Inst) (d : Doing) → Each (InstFits p y g) is → IsSpawn (doing_ask xs (fr is d) (suc (length fs)) d) → Stands p hosts input (insts_child xs (fr is d) (suc (length fs)) is) (thread_child (target_setting p hosts input) (go_on input (lines_for y n is tm h.params d) (image k n o d count h)))
+  doing_children : (is : List Inst) (d : Doing) → Each (InstFits p y g) is → IsSpawn (doing_ask xs (fr is d) (suc (length fs)) d) → Simulates p hosts input (insts_child xs (fr is d) (suc (length fs)) is) (thread_child (target_setting p hosts input) (go_on input (lines_for y n is tm h.params d) (image k n o d count h)))
   doing_children is Ready fit e = ready_children is fit e
   doing_children is (Entering []) fit e = absurd e
   doing_children is (Entering (q ∷ qs)) fit e = absurd (entry_no_spawn _ q.attr e)
@@ -343,10 +343,10 @@ module _ (p : Program) (hosts : List HostEntry) (input : List ℕ) (fits : Progr
   doing_children is (Retagging dest v a) fit e = absurd e
   doing_children is (Leaving v) fit e = absurd (release_no_spawn o.children o.protectors o.stack nowhere (λ z. z) e)
 
-children_by : (p : Program) (hosts : List HostEntry) (input : List ℕ) → ProgramFits p hosts → (s : Source) (t : Thread) (frames : List Frame) → StandsBy p hosts input s t frames → IsSpawn (frames_ask (source_setting p hosts input) frames s.over) → Stands p hosts input (frames_child (source_setting p hosts input) frames) (thread_child (target_setting p hosts input) t)
+children_by : (p : Program) (hosts : List HostEntry) (input : List ℕ) → ProgramFits p hosts → (s : Source) (t : Thread) (frames : List Frame) → SimulatesBy p hosts input s t frames → IsSpawn (frames_ask (source_setting p hosts input) frames s.over) → Simulates p hosts input (frames_child (source_setting p hosts input) frames) (thread_child (target_setting p hosts input) t)
 children_by p hosts input fits s t [] st e = absurd e
 children_by p hosts input fits s t (f ∷ fs) st e =
-    subst (λ u. Stands p hosts input (frames_child (source_setting p hosts input) (f ∷ fs)) (thread_child (target_setting p hosts input) u)) (sym st.is)
+    subst (λ u. Simulates p hosts input (frames_child (source_setting p hosts input) (f ∷ fs)) (thread_child (target_setting p hosts input) u)) (sym st.is)
     (doing_children p hosts input fits st.code f.function f.number f.term f.env f.owned st.hidden s.count fs st.top.holds f.insts f.doing st.top.insts_fit e)
 
 -- ---- the law

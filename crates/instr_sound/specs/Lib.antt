@@ -1,5 +1,5 @@
 pub mod Fits
-pub mod Stands
+pub mod Simulation
 pub mod Tie
 pub mod Tried
 pub mod Text

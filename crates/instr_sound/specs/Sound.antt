@@ -1,4 +1,4 @@
--- A thread over target code beside the thread over the text for which it goes.
+-- A thread over target code beside the thread over the text that it simulates.
 use Rattle.std.specs.Prelude.{◌≡◌, ◌<◌, ℕ, List, Option, None, true, false, length}
 use Rattle.history.specs.declared.ask.Arg.{Arg}
 use Rattle.history.specs.declared.ask.Ask.{Ask}
@@ -22,7 +22,7 @@ use Rattle.thread_parts.specs.Fits.{ReplyFits}
 use Rattle.instrument.specs.Translation.{translation}
 use Rattle.thread_machine.specs.Thread.{Thread, row_of, thread_ask, thread_turn, thread_answer, thread_start, thread_child, thread_begins, thread_site}
 use Rattle.thread_machine.specs.Views.{MachineView, IsSpawn, setting}
-use Rattle.instr_sound.specs.Stands.{Stands}
+use Rattle.instr_sound.specs.Simulation.{Simulates}
 
 -- a program with its hosts, a machine over its target code, and the state of the thread over the text
 pub record SoundView : Type 0 where
@@ -38,13 +38,13 @@ sound_view v m s = record { program = v.program; hosts = v.hosts; machine = m; s
 abbrev pub text_of : SoundView → Setting
 text_of m = setting_of m.program m.machine.setting.input m.hosts
 
--- The program is accepted, the target code is its translation, and the machine's thread goes for the thread over the text,
+-- The program is accepted, the target code is its translation, and the machine's thread simulates the thread over the text,
 -- whose requests fit.
 pub record IsSound (m : SoundView) : Type 0 where
   pub program : IsProgram m.program
   pub accepted : IsAccepted m.program m.hosts
   pub code : m.machine.setting.target ≡ translation m.hosts.entries m.program
-  pub stands : Stands m.program m.hosts.entries m.machine.setting.input m.state m.machine.thread
+  pub simulates : Simulates m.program m.hosts.entries m.machine.setting.input m.state m.machine.thread
   pub requests : TopFits (text_of m) m.state.frames
 
 -- both threads at the beginning of a function

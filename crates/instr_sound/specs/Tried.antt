@@ -26,7 +26,7 @@ use Rattle.ir_ast.specs.declared.types.ResultTy.{ResultTy}
 use Rattle.source_sem.specs.Traces.{Given, named, gives, reg, def, does, block, function, ret_of, alloc, tag, prov, made, retagged, done, value, spawned}
 use Rattle.thread_machine.specs.Thread.{row_of, thread_start}
 use Rattle.thread_machine.specs.Tried.{target_asked, target_after}
-use Rattle.instr_sound.specs.Stands.{target_setting}
+use Rattle.instr_sound.specs.Simulation.{target_setting}
 
 -- what the thread over the translation asks, from a function on
 abbrev pub translated_asked : Program → List HostEntry → List ℕ → ℕ → List Arg → List Given → List (ℕ × Ask)

@@ -11,7 +11,7 @@ pub fn threads_tie()
 ghost use Rattle.std.specs.Prelude.{◌≡◌, [], ◌∷◌};
 ghost use Rattle.source_sem.specs.Source.{source_start};
 ghost use Rattle.source_sem.specs.Traces.{asked, three, three_given, three_asked, sibling, sibling_given, sibling_asked, half, half_given, half_asked, leaving, leaving_given, leaving_asked, swaps, swaps_given, swaps_asked, prov};
-ghost use Rattle.instr_sound.specs.Stands.{source_setting};
+ghost use Rattle.instr_sound.specs.Simulation.{source_setting};
 ghost use Rattle.instr_sound.specs.Tried.{translated_asked, translated_count, two_pointers, kinds, kinds_hosts, kinds_input, kinds_given, kinds_asked};
 
 /// What the translations of small programs ask, part after part, and how many instructions they count.
@@ -29,7 +29,7 @@ pub fn asked_by_example()
 
 ghost use Rattle.instr_sound.specs.Sound.{SoundLaw, FitsUntyped};
 
-/// A machine over a program's translation that goes for a thread over its text does so after each call.
+/// A machine over a program's translation that simulates a thread over its text does so after each call.
 pub fn threads_stay_sound()
     ensures law { SoundLaw }
     ensures fits { FitsUntyped }

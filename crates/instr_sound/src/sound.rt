@@ -18,8 +18,8 @@ use thread_machine::Machine;
 
 /// A machine over the target code of a verified program.
 ///
-/// Contracts see the program, the machine, and the state of the thread over the text for which the machine goes. That
-/// state takes no memory.
+/// Contracts see the program, the machine, and the state of the thread over the text that the machine simulates.
+/// That state takes no memory.
 #[derive(Drop)]
 pub struct SoundMachine<'p> {
     program: &'p Verified,
@@ -76,8 +76,8 @@ impl<'p> SoundMachine<'p> {
         })
     }
 
-    /// What holds of it: the program is accepted, the target code is its translation, and the machine goes for the
-    /// thread over the text. It does nothing.
+    /// What holds of it: the program is accepted, the target code is its translation, and the machine simulates
+    /// the thread over the text. It does nothing.
     pub fn soundness(&self)
         ensures { IsSound self.now }
     {

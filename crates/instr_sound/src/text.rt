@@ -20,6 +20,9 @@ impl Model for TextThread {
 // It owns nothing.
 unsafe impl Send for TextThread {}
 
+// It owns nothing.
+unsafe impl Sync for TextThread {}
+
 /// What the thread does.
 #[derive(Clone, Copy, Drop)]
 pub(crate) enum TextStep<'a> {

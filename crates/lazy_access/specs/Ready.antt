@@ -41,6 +41,10 @@ IsReadyFor t (Retag parent span kind guard) = IsReadyToRetag t parent span kind 
 IsReadyFor t (EndProtector tag) = IsReadyToEnd t tag
 IsReadyFor t (FreeAll tag) = HasWalk t
 
+-- what one tree is ready for, the other is ready for too
+abbrev pub KeepsReady : Shape → Shape → Type 0
+KeepsReady t u = (request : TreeRequest) → IsReadyFor t request → IsReadyFor u request
+
 -- the span has a byte and lies in the allocation
 abbrev pub Fits : ℕ → TreeRequest → Type 0
 Fits size (Access tag span kind) = (1 ≤ span.len) × (span.start + span.len ≤ size)

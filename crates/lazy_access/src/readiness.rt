@@ -1,12 +1,12 @@
 //! The memory for a step, taken before it.
-ghost use Rattle.std.specs.Prelude.{◌≡◌, ℕ, ◌+◌, ◌*◌, ◌<◌, ◌≤◌, length, IsTrue, IsFalse, OnOk, MatchOption};
+ghost use Rattle.std.specs.Prelude.{◌≡◌, ℕ, ◌+◌, ◌*◌, ◌<◌, ◌≤◌, length, IsTrue, IsFalse, OnOk, OnErr, MatchOption};
 ghost use Rattle.eager_tree.specs.Tree.{links};
 ghost use Rattle.lazy_tree.specs.Quiet.{IsQuiet, KeepsQuiet, KeepsCuts};
 ghost use Rattle.lazy_tree.specs.Ring.{ring_size, pieces};
 ghost use Rattle.lazy_tree.specs.Eager.{eager_of};
 ghost use Rattle.lazy_access.specs.Change.{IsRoomier};
-ghost use Rattle.lazy_access.specs.Requests.{IsChild};
-ghost use Rattle.lazy_access.specs.Ready.{IsReadyToAccess, IsReadyToRetag, IsReadyToEnd, IsReadyFor, IsWithinRing, Fits};
+ghost use Rattle.lazy_access.specs.Requests.{HasWalk, IsChild};
+ghost use Rattle.lazy_access.specs.Ready.{IsReadyToAccess, IsReadyToRetag, IsReadyToEnd, IsReadyFor, KeepsReady, IsWithinRing, Fits};
 
 use crate::check::Access;
 use crate::request::TreeRequest;
@@ -25,6 +25,7 @@ fn prepare_access(tree: &mut LazyTree, tag: Tag, span: Span, kind: Kind) -> Resu
     ensures quiet { KeepsQuiet tree.old tree.new }
     ensures cuts { KeepsCuts tree.old tree.new }
     ensures rises { tree.old.visits ≤ tree.new.visits }
+    ensures walk { HasWalk tree.old → HasWalk tree.new }
     ensures ring { IsQuiet tree.old tag span kind → tree.new.visits ≤ tree.old.visits + ring_size (links (eager_of tree.old).nodes) tag * pieces tree.old.nodes span }
 {
     tree.reserve_walk()?;
@@ -49,6 +50,7 @@ fn store_root(tree: &mut LazyTree) -> Result<(), NoMemory>
     ensures same { eager_of tree.new ≡ eager_of tree.old }
     ensures size { tree.new.size ≡ tree.old.size }
     ensures visits { tree.new.visits ≡ tree.old.visits }
+    ensures kept { KeepsReady tree.old tree.new }
     ensures quiet { KeepsQuiet tree.old tree.new }
     ensures cuts { KeepsCuts tree.old tree.new }
 {
@@ -70,6 +72,8 @@ fn make_child(
     requires within { span.start + span.len ≤ tree.old.size }
     ensures child { OnOk result (MatchOption tree.new.ready ⊥ (IsChild tree.old.size span kind guard)) }
     ensures spare { OnOk result (1 ≤ tree.new.spare) }
+    ensures err { OnErr result (tree.new.ready ≡ tree.old.ready) }
+    ensures grows { tree.old.spare ≤ tree.new.spare }
     ensures tree { tree.new ≡ record tree.old { spare = tree.new.spare; ready = tree.new.ready } }
     ensures quiet { KeepsQuiet tree.old tree.new }
     ensures cuts { KeepsCuts tree.old tree.new }
@@ -100,6 +104,7 @@ fn prepare_retag(
     requires some { 1 ≤ span.len }
     requires within { span.start + span.len ≤ tree.old.size }
     ensures ready { OnOk result (IsReadyToRetag tree.new parent span kind guard) }
+    ensures kept { OnErr result (KeepsReady tree.old tree.new) }
     ensures same { eager_of tree.new ≡ eager_of tree.old }
     ensures size { tree.new.size ≡ tree.old.size }
     ensures rises { tree.old.visits ≤ tree.new.visits }
@@ -107,8 +112,8 @@ fn prepare_retag(
     ensures cuts { KeepsCuts tree.old tree.new }
 {
     store_root(tree)?;
-    make_child(tree, span, kind, guard)?;
-    prepare_access(tree, parent, span, Kind::Read)
+    prepare_access(tree, parent, span, Kind::Read)?;
+    make_child(tree, span, kind, guard)
 }
 
 /// Takes all memory for the end of a protector. The tree stands for the same eager tree.
@@ -120,6 +125,7 @@ fn prepare_end(tree: &mut LazyTree, tag: Tag) -> Result<(), NoMemory>
     ensures quiet { KeepsQuiet tree.old tree.new }
     ensures cuts { KeepsCuts tree.old tree.new }
     ensures rises { tree.old.visits ≤ tree.new.visits }
+    ensures walk { HasWalk tree.old → HasWalk tree.new }
 {
     tree.reserve_walk()?;
     tree.soundness();
@@ -143,9 +149,10 @@ fn fits(tree: &LazyTree, span: Span) -> bool
 ///
 /// # Errors
 ///
-/// `NoMemory`: out of memory. The tree is not ready for the request.
+/// `NoMemory`: out of memory. The tree is not ready for the request, but still for those for which it was.
 pub fn prepare(tree: &mut LazyTree, request: &TreeRequest) -> Result<(), NoMemory>
     ensures ready { Fits tree.old.size request.now → OnOk result (IsReadyFor tree.new request.now) }
+    ensures kept { OnErr result (KeepsReady tree.old tree.new) }
     ensures same { eager_of tree.new ≡ eager_of tree.old }
     ensures size { tree.new.size ≡ tree.old.size }
     ensures rises { tree.old.visits ≤ tree.new.visits }

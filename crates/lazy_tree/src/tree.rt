@@ -329,16 +329,19 @@ impl LazyTree {
     pub fn reserve_walk(&mut self) -> Result<(), NoMemory>
         ensures marks { OnOk result (self.new.marks ≡ length self.old.nodes) }
         ensures list { OnOk result (length self.old.nodes ≤ self.new.list_room) }
+        ensures err { OnErr result (self.new.marks ≡ self.old.marks) }
+        ensures grows { self.old.list_room ≤ self.new.list_room }
         ensures tree { self.new ≡ record self.old { marks = self.new.marks; list_room = self.new.list_room } }
     {
         let count = self.nodes.len();
-        self.path.resize(count, false)?;
         self.opened.clear();
         self.opened.reserve(count)?;
+        self.path.resize(count, false)?;
         Ok(())
     }
 
-    /// Stores the root, where no node is stored yet. The tree stands for the same eager tree.
+    /// Stores the root, where no node is stored yet, with room for a walk over it and for two more runs
+    /// of it. The tree stands for the same eager tree.
     ///
     /// # Errors
     ///
@@ -346,8 +349,13 @@ impl LazyTree {
     pub fn store_root(&mut self) -> Result<(), NoMemory>
         requires { self.old.nodes ≡ [] }
         ensures ok { OnOk result (IsRootAlone self.old.root self.old.size self.new.nodes) }
+        ensures room { OnOk result (2 ≤ (node_at self.new.nodes 0).runs.spare) }
+        ensures marks { OnOk result (self.new.marks ≡ 1) }
+        ensures list { OnOk result (1 ≤ self.new.list_room) }
         ensures err { OnErr result (self.new.nodes ≡ self.old.nodes) }
-        ensures tree { self.new ≡ record self.old { nodes = self.new.nodes; spare = self.new.spare } }
+        ensures err_marks { OnErr result (self.new.marks ≡ self.old.marks) }
+        ensures grows { self.old.list_room ≤ self.new.list_room }
+        ensures tree { self.new ≡ record self.old { nodes = self.new.nodes; spare = self.new.spare; marks = self.new.marks; list_room = self.new.list_room } }
     {
         let alloc = *self.nodes.allocator();
         let slot = Slot {
@@ -355,8 +363,11 @@ impl LazyTree {
             accessed: true,
             level: Level::Nothing,
         };
-        let runs = RangeMap::new(alloc, self.size, slot)?;
+        let mut runs = RangeMap::new(alloc, self.size, slot)?;
+        runs.reserve(2)?;
         self.nodes.reserve(1)?;
+        self.opened.reserve(1)?;
+        self.path.resize(1, false)?;
         self.nodes.push_reserved(Node {
             tag: self.root,
             parent: None,
@@ -372,12 +383,15 @@ impl LazyTree {
     ///
     /// # Errors
     ///
-    /// `NoMemory`: out of memory. The nodes are as before.
+    /// `NoMemory`: out of memory. The nodes are as before, and so are the runs of a child that were made
+    /// before.
     pub fn make_child(&mut self, fresh: Slot, touched: Slot, span: Span) -> Result<(), NoMemory>
         requires some { 1 ≤ span.len }
         requires within { span.start + span.len ≤ self.old.size }
         ensures ready { OnOk result (IsReady self.old.size fresh touched span self.new.ready) }
         ensures spare { OnOk result (1 ≤ self.new.spare) }
+        ensures err { OnErr result (self.new.ready ≡ self.old.ready) }
+        ensures grows { self.old.spare ≤ self.new.spare }
         ensures tree { self.new ≡ record self.old { spare = self.new.spare; ready = self.new.ready } }
     {
         let alloc = *self.nodes.allocator();

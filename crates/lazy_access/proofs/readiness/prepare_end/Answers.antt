@@ -8,6 +8,7 @@ use Rattle.lazy_access.specs.Ready.{IsReadyToEnd}
 use Rattle.lazy_access.proofs.Reserving.{eager-roomier, ready-by, sound-roomier}
 use Rattle.lazy_access.specs.Change.{IsRoomier}
 use Rattle.lazy_access.proofs.Ringing.{quiet-roomier, cuts-roomier}
+use Rattle.lazy_access.proofs.Readying.{walk-made, walk-grows}
 use Rattle.lazy_access.proofs.readiness.prepare_end.Goals as goal
 
 on-ok : {A E : Type 0} (P Q : Type 0) (r : Result A E) → (P → Q) → OnOk r P → OnOk r Q
@@ -50,3 +51,17 @@ returns-in-Some-clause-quiet c =
 
 pub returns-in-Some-clause-cuts : goal.returns-in-Some-clause-cuts
 returns-in-Some-clause-cuts c = λ s. cuts-roomier c.args.tree.now.nodes c.reserve_ends.new.tree.nodes s (roomier c)
+
+pub returns-in_err-reserve_walk-clause-walk : goal.returns-in_err-reserve_walk-clause-walk
+returns-in_err-reserve_walk-clause-walk c =
+    walk-made c.reserve_walk.result c.args.tree.now c.reserve_walk.new.self (ap (λ (t : Shape). t.nodes) c.reserve_walk.ensures.tree) c.reserve_walk.ensures.marks c.reserve_walk.ensures.list c.reserve_walk.ensures.err c.reserve_walk.ensures.grows
+
+pub returns-in-None-clause-walk : goal.returns-in-None-clause-walk
+returns-in-None-clause-walk c =
+    walk-made c.reserve_walk.result c.args.tree.now c.reserve_walk.new.self (ap (λ (t : Shape). t.nodes) c.reserve_walk.ensures.tree) c.reserve_walk.ensures.marks c.reserve_walk.ensures.list c.reserve_walk.ensures.err c.reserve_walk.ensures.grows
+
+pub returns-in-Some-clause-walk : goal.returns-in-Some-clause-walk
+returns-in-Some-clause-walk c = λ h.
+    let room : c.reserve_ends.new.tree.list_room ≡ c.reserve_walk.new.self.list_room = ap (λ (t : Shape). t.list_room) c.reserve_ends.ensures.tree in
+    walk-grows c.reserve_walk.new.self c.reserve_ends.new.tree c.reserve_ends.ensures.same.links.count (ap (λ (t : Shape). t.marks) c.reserve_ends.ensures.tree) (omega (arith, room))
+    (walk-made c.reserve_walk.result c.args.tree.now c.reserve_walk.new.self (ap (λ (t : Shape). t.nodes) c.reserve_walk.ensures.tree) c.reserve_walk.ensures.marks c.reserve_walk.ensures.list c.reserve_walk.ensures.err c.reserve_walk.ensures.grows h)

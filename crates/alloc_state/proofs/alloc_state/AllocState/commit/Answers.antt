@@ -6,7 +6,7 @@ use Rattle.history.specs.declared.entry.Reply.{Reply}
 use Rattle.history.specs.Objects.{Object, answer, unmade}
 use Rattle.history.specs.Histories.{replay, is_make, HasBytes}
 use Rattle.alloc_state.specs.Log.{Log, has_make}
-use Rattle.alloc_state.specs.Prepared.{Prepared, AreBelow}
+use Rattle.alloc_state.specs.Prepared.{AreBelow}
 use Rattle.alloc_state.proofs.LongerHistory.{IsHistory-push, replay-push}
 use Rattle.alloc_state.proofs.TagsBelow.{AreBelow-replay}
 use Rattle.alloc_state.proofs.Makes.{none_made}
@@ -34,8 +34,8 @@ invariant_of-self c =
     record {
       history = rw c.push_reserved.ensures.items (IsHistory-push number entries entry c.self.invariant.history later refl c.requires.fitting (λ h. none_made entries (once h)) reply);
       bytes = rw c.push_reserved.ensures.items (All-append (λ (x : Entry). HasBytes x.request) entries (entry ∷ []) c.self.invariant.bytes (All-cons (λ (x : Entry). HasBytes x.request) entry [] c.requires.bytes (All-nil (λ (x : Entry). HasBytes x.request))));
-      state = ap (replay (unmade number)) c.push_reserved.ensures.items ∙ replay-push (unmade number) entries entry ∙ ap (λ (o : Object). (answer o request stamp).object) state ∙ sym (ap (λ (p : Prepared). p.object) c.run-ran.ensures.state);
-      room = rw c.run-ran.ensures.state tt;
+      state = ap (replay (unmade number)) c.push_reserved.ensures.items ∙ replay-push (unmade number) entries entry ∙ ap (λ (o : Object). (answer o request stamp).object) state ∙ sym c.run-ran.ensures.object;
+      room = rw c.run-ran.ensures.ready tt;
     }
 
 pub returns-clause-appended : goal.returns-clause-appended
@@ -46,7 +46,7 @@ returns-clause-appended c =
     let entry : Request → Reply → Entry = λ q r. record { thread = c.args.thread; stamp = stamp; site = c.args.site; alloc = Some c.self.inside.number; request = q; reply = r } in
     let log : List Entry → Option Request → Log = λ es r. record { number = c.self.inside.number; entries = es; ready = r } in
     ap (λ (es : List Entry). log es c.run-ran.new.self.ready) c.push_reserved.ensures.items
-    ∙ ap (λ (p : Prepared). log (items ++ entry request c.run-ran.result.reply ∷ []) p.ready) c.run-ran.ensures.state
+    ∙ ap (λ (r : Option Request). log (items ++ entry request c.run-ran.result.reply ∷ []) r) c.run-ran.ensures.ready
     ∙ ap (λ (q : Request). log (items ++ entry q c.run-ran.result.reply ∷ []) None) (sym c.run-ran.ensures.request)
     ∙ ap (λ (r : Reply). log (items ++ entry c.run-ran.result.request r ∷ []) None) (sym c.run-ran.ensures.again)
     ∙ ap (λ (l : Log). record { number = l.number; entries = l.entries ++ entry c.run-ran.result.request c.run-ran.result.again ∷ []; ready = None }) c.self.view_is

@@ -1,0 +1,14 @@
+pub mod Places
+pub mod Writes
+pub mod Words
+pub mod Numbers
+pub mod Entries
+pub mod Steps
+pub mod Binding
+pub mod Asking
+pub mod Calling
+pub mod Going
+pub mod Turning
+pub mod Answering
+pub mod Typing
+pub mod Handles
