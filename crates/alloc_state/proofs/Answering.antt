@@ -238,12 +238,12 @@ carries m (Spawn function) = refl
 carries m (Join child) = refl
 
 -- a request for data is answered as data are
-abbrev IsDataAnswer : ℕ → Made → Request → Stamp → Type 0
+abbrev pub IsDataAnswer : ℕ → Made → Request → Stamp → Type 0
 IsDataAnswer number m request stamp =
     (answer (record { number = number; made = Some m }) request stamp ≡ data_answer (record { number = number; made = Some m }) (Some m) request)
     × ((new : Tag) → judged number m (through request) (step_of m.tree request) ≡ judged_as m.tree (asked number m request) new)
 
-data-of : (number : ℕ) (m : Made) (request : Request) (stamp : Stamp) → is_data request ≡ true → IsDataAnswer number m request stamp
+pub data-of : (number : ℕ) (m : Made) (request : Request) (stamp : Stamp) → is_data request ≡ true → IsDataAnswer number m request stamp
 data-of number m (Make size place) stamp e = absurd (let f : false ≡ true = e in cc)
 data-of number m (Load at ty prov) stamp e = (refl, λ new. data-judged number m prov (span_of (Load at ty prov)) (kind_of (Load at ty prov)) new)
 data-of number m (Store at ty value carried prov) stamp e = (refl, λ new. data-judged number m prov (span_of (Store at ty value carried prov)) (kind_of (Store at ty value carried prov)) new)
@@ -299,7 +299,7 @@ end-answers number v w request tag stamp new piece verdict is plain judge =
 
 -- a request that plain memory refuses is not asked of the tree
 pub counted-none : (t : Shape) (verdict : Verdict) → IsCounted t t (Err Clean) verdict
-counted-none t verdict = record { rises = omega arith; ring = tt; still = λ e. tt; cuts = λ at lt h. inl h }
+counted-none t verdict = record { size = refl; rises = omega arith; ring = tt; still = λ e. tt; cuts = λ at lt h. inl h }
 
 -- what is no Make, no Retag and no end of a protector is for data
 pub is-data : (request : Request) → is_make request ≡ false → ((at len : ℕ) (kind : _) (guard : _) (prov : Option Prov) → request ≡ Retag at len kind guard prov → ⊥) → ((tag : Tag) → request ≡ EndProtector tag → ⊥) → is_data request ≡ true

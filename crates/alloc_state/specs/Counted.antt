@@ -30,6 +30,7 @@ IsEndAsked (Ok request) at = IsEndOf request at
 -- The counter doesn't fall, and where an access changes nothing it rises by no more than ring times pieces.
 -- An access with a clean verdict changes nothing from then on. New cuts are the ends of what is asked.
 pub record IsCounted (before after : Shape) (asks : Result TreeRequest Verdict) (verdict : Verdict) : Type 0 where
+  pub size : after.size ≡ before.size
   pub rises : before.visits ≤ after.visits
   pub ring : IfOk asks (IsWithinRing before after)
   pub still : verdict ≡ Clean → IfOk asks (IsStill after)
@@ -37,6 +38,7 @@ pub record IsCounted (before after : Shape) (asks : Result TreeRequest Verdict) 
 
 -- the same of the room that is taken for what is asked, which leaves what changes nothing and the cuts
 pub record IsRoomTaken (before after : Shape) (asks : Result TreeRequest Verdict) : Type 0 where
+  pub size : after.size ≡ before.size
   pub rises : before.visits ≤ after.visits
   pub ring : IfOk asks (IsWithinRing before after)
   pub quiet : KeepsQuiet before after

@@ -3,5 +3,6 @@ pub mod Outcomes
 pub mod Asking
 pub mod Counted
 pub mod MadeValues
+pub mod Repeats
 pub mod Prepared
 pub mod Log

@@ -9,6 +9,7 @@ use Rattle.history.specs.declared.entry.Request.{Request}
 use Rattle.history.specs.Objects.{unmade}
 use Rattle.history.specs.Histories.{replay, is_make, HasBytes, IsHistory}
 use Rattle.alloc_state.specs.Prepared.{Prepared}
+use Rattle.alloc_state.specs.Repeats.{IsStillAfter, HasCutsBy}
 
 -- an allocation's number, its entries, oldest first, and the request for which memory was taken
 pub record Log : Type 0 where
@@ -20,9 +21,12 @@ pub record Log : Type 0 where
 abbrev pub has_make : List Entry → Bool
 has_make entries = list_any (λ e. is_make e.request) entries
 
--- the entries are a legal history, the state is their replay, and there is room for the request that is ready
+-- The entries are a legal history, the state is their replay, and there is room for the request that is ready.
+-- The last access changes nothing when it is repeated, and the tree's cuts are those of the entries.
 pub record IsKept (number : ℕ) (entries : Vec Entry Global) (prepared : Prepared) : Type 0 where
   pub history : IsHistory number entries.items
   pub bytes : All (λ e. HasBytes e.request) entries.items
   pub state : replay (unmade number) entries.items ≡ prepared.object
+  pub still : IsStillAfter entries.items prepared.tree
+  pub cuts : HasCutsBy entries.items prepared.tree
   pub room : MatchOption prepared.ready (Unit {0}) (λ _. vec_len entries < vec_capacity entries)

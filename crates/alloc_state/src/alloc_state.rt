@@ -5,6 +5,7 @@ ghost use Rattle.history.specs.Objects.{answer, unmade};
 ghost use Rattle.lazy_tree.specs.Eager.{eager_of};
 ghost use Rattle.history.specs.Histories.{HasBytes, replay, fits, is_make, IsHistory};
 ghost use Rattle.alloc_state.specs.Log.{has_make};
+ghost use Rattle.alloc_state.specs.Repeats.{IsStillAfter, HasCutsBy};
 
 use crate::object_state::ObjectState;
 use bsan_ids::{AllocNo, ListOf, NoMemory, Stamp, ThreadNo};
@@ -121,8 +122,12 @@ impl AllocState {
     }
 
     /// The tree, which stands for that of the entries' replay, and `None` where the allocation isn't made.
+    /// An access that was the last entry, and was neither refused nor denied, changes nothing of it when it
+    /// is repeated. Its cuts are the first and end offsets of the entries' accesses and retags.
     pub fn tree(&self) -> Option<&LazyTree>
-        ensures { option_map (λ t. eager_of t.now) result ≡ option_map (λ m. m.tree) (replay (unmade self.now.number.0) self.now.entries).made }
+        ensures tree { option_map (λ t. eager_of t.now) result ≡ option_map (λ m. m.tree) (replay (unmade self.now.number.0) self.now.entries).made }
+        ensures still { IsStillAfter self.now.entries (option_map (λ t. t.now) result) }
+        ensures cuts { HasCutsBy self.now.entries (option_map (λ t. t.now) result) }
     {
         self.state.tree()
     }

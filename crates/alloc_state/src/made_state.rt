@@ -1,5 +1,5 @@
 //! A made allocation.
-ghost use Rattle.std.specs.Prelude.{IfOk, IfSome, OnOk, OnErr, ◌≡◌, ◌≤◌, ◌<◌, All, IsTrue, List, Some, None, false, length};
+ghost use Rattle.std.specs.Prelude.{IfOk, IfSome, OnOk, OnErr, ◌≡◌, ◌≤◌, ◌<◌, All, IsTrue, List, [], Some, None, false, length};
 ghost use Rattle.eager_tree.specs.Tree.{new_tree};
 ghost use Rattle.lazy_tree.specs.Eager.{eager_of};
 ghost use Rattle.history.specs.Pieces.{Byte};
@@ -62,6 +62,7 @@ impl MadeState {
         ensures plain { result.plain ≡ plain }
         ensures tree { eager_of result.tree ≡ new_tree (length plain.memory.bytes) root }
         ensures closed { result.closed ≡ false }
+        ensures nodes { result.tree.nodes ≡ [] }
     {
         let size = plain.size();
         MadeState {

@@ -8,6 +8,7 @@ ghost use Rattle.history.specs.Pieces.{Byte};
 ghost use Rattle.alloc_state.specs.MadeValues.{made_in, object_in, IsPrepared};
 ghost use Rattle.alloc_state.specs.Outcomes.{reply_with, HasBytesOut};
 ghost use Rattle.alloc_state.specs.Prepared.{AreBelow, IsFreshFor, is_made_in};
+ghost use Rattle.alloc_state.specs.Repeats.{IsPrepareCounted, IsRunCounted};
 
 use crate::made_state::MadeState;
 use crate::outcome::{Outcome, Seen};
@@ -92,7 +93,8 @@ fn outcome_of(
     requires room { MatchOption made.old (Unit {0}) (λ v. IsPrepared number.0 v request.now) }
     requires newest { AreBelow stamp.0 (object_in number.0 made.old) }
     requires fitting { IsTrue (fits request.now) }
-    ensures { (piece : List Byte) → HasBytesOut (made_in made.old) request.now piece → record { reply = reply_with piece result; object = object_in number.0 made.new } ≡ answer (object_in number.0 made.old) request.now stamp }
+    ensures counted { IsRunCounted number.0 (made_in made.old) (option_map (λ v. v.tree) made.old) (option_map (λ v. v.tree) made.new) request.now result.verdict }
+    ensures answer { (piece : List Byte) → HasBytesOut (made_in made.old) request.now piece → record { reply = reply_with piece result; object = object_in number.0 made.new } ≡ answer (object_in number.0 made.old) request.now stamp }
 {
     if let Some(fresh) = fresh {
         let tag = Tag(stamp.0);
@@ -149,6 +151,7 @@ impl ObjectState {
         ensures ok { OnOk result (self.new.ready ≡ Some request.now) }
         ensures err { OnErr result (self.new.ready ≡ self.old.ready) }
         ensures object { self.new.object ≡ self.old.object }
+        ensures counted { IsPrepareCounted self.old.object.number self.old.object.made self.old.tree self.new.tree request.now }
     {
         let copy = request.copy()?;
         let fresh = fresh_for(alloc, request)?;
@@ -176,6 +179,7 @@ impl ObjectState {
         ensures again { result.again ≡ result.reply }
         ensures object { self.new.object ≡ (answer self.old.object request.now stamp).object }
         ensures ready { self.new.ready ≡ None }
+        ensures counted { IsRunCounted self.old.object.number self.old.object.made self.old.tree self.new.tree request.now result.reply.verdict }
     {
         let Some(ready) = self.ready.take() else {
             unreachable!()

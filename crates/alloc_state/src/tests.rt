@@ -9,7 +9,7 @@ use super::AllocState;
 use crate::outcome::{Outcome, Seen};
 use bsan_ids::{AllocNo, Frag, NoMemory, Prov, Stamp, Tag, ThreadNo};
 use eager_tree::Violation;
-use history::{Entry, Piece, Request, Trap, Verdict};
+use history::{Entry, Piece, Reply, Request, Trap, Verdict};
 use ir_ast::{ModifyOp, Place, Ty, Width};
 use perm_table::{Guard, Perm, RetagKind};
 use std::alloc::Global;
@@ -560,8 +560,8 @@ const CASES: &[(u32, &[Step])] = &[
 /// Four bytes of the pointer `ADDRESS`, from its byte of this number on, with the provenance of node 1.
 fn half(alloc: Global, first: u8) -> Result<Piece, NoMemory> {
     let mut piece = Piece::new(alloc);
-    for index in [0, 1, 2, 3] {
-        let index = first % 8 + index;
+    for i in 0..4_u8 {
+        let index = first % 8 + i;
         let frag = X.map(|prov| Frag { prov, index });
         piece.push(u8::from(index == 4), frag)?;
     }
@@ -688,19 +688,38 @@ fn writes_bytes(request: &Request)
     }
 }
 
-/// Whether the allocation may be asked for the step next, and answers it so.
-fn answers(alloc: Global, state: &mut AllocState, step: Step) -> Result<bool, NoMemory> {
-    let (stamp, ask, seen, carried, verdict) = step;
-    let request = request_of(alloc, ask)?;
+/// The counter of the allocation's tree.
+fn visits(state: &AllocState) -> u64 {
+    match state.tree() {
+        Some(tree) => tree.visits(),
+        None => 0,
+    }
+}
+
+/// The reply of the step, and how far its commit raises the counter, where the allocation may be asked
+/// for it next.
+fn answered(
+    state: &mut AllocState,
+    stamp: u64,
+    request: Request,
+) -> Result<Option<(Reply, u64)>, NoMemory> {
     if !is_later(state.entries(), stamp)
         || !is_fitting(&request)
         || !is_first_make(state, &request)
     {
-        return Ok(false);
+        return Ok(None);
     }
     state.prepare(&request)?;
+    let before = visits(state);
     writes_bytes(&request);
     let entry = state.commit(ThreadNo(0), Stamp(stamp), 0, request);
+    Ok(Some((entry.reply, visits(state).wrapping_sub(before))))
+}
+
+/// Whether the allocation is asked the step, and replies as worked out.
+fn replies_so(alloc: Global, state: &mut AllocState, step: Step) -> Result<bool, NoMemory> {
+    let (stamp, ask, seen, carried, verdict) = step;
+    let request = request_of(alloc, ask)?;
     let piece = match ask {
         Ask::CopyOut(first) => half(alloc, first)?,
         _ => Piece::new(alloc),
@@ -710,7 +729,10 @@ fn answers(alloc: Global, state: &mut AllocState, step: Step) -> Result<bool, No
         carried,
         verdict,
     };
-    Ok(entry.reply.equals(&outcome.reply(piece)))
+    match answered(state, stamp, request)? {
+        Some((reply, _)) => Ok(reply.equals(&outcome.reply(piece))),
+        None => Ok(false),
+    }
 }
 
 /// Asks that a value may move to another thread.
@@ -723,11 +745,71 @@ fn each_allocation_replies_as_worked_out(rt: HostRuntime) -> Result<(), Fail> {
         let mut state = AllocState::unmade(rt.alloc(), number);
         ask_sent(&state);
         for step in *steps {
-            assert!(rt; answers(rt.alloc(), &mut state, *step)?);
+            assert!(rt; replies_so(rt.alloc(), &mut state, *step)?);
         }
         assert_eq!(rt; state.tree().is_some(), state.is_made());
         assert_eq!(rt; state.number(), number);
         assert_eq!(rt; state.into_entries().len(), steps.len());
+    }
+    Ok(())
+}
+
+/// A reborrow of all eight bytes through a node of allocation 1.
+fn reborrow(parent: u64) -> Request {
+    Request::Retag {
+        at: 0,
+        len: 8,
+        kind: MUT,
+        guard: FREE,
+        prov: Some(Prov {
+            alloc: AllocNo(1),
+            tag: Tag(parent),
+        }),
+    }
+}
+
+/// A load through the second or the third node of allocation 1.
+fn load(ty: Ty, tag: u64) -> Request {
+    Request::Load {
+        at: 0,
+        ty,
+        prov: Some(Prov {
+            alloc: AllocNo(1),
+            tag: Tag(tag),
+        }),
+    }
+}
+
+/// How far the commit of a repeated load through node 2 raises the counter. Node 1 has three children,
+/// and the last of them a chain of 100 nodes below it.
+fn raised_by_repeat(state: &mut AllocState, halves: bool) -> Result<Option<u64>, NoMemory> {
+    let make = Request::Make {
+        size: 8,
+        place: STACK,
+    };
+    let _ = answered(state, 1, make)?;
+    for stamp in 2..105_u64 {
+        let parent = if stamp < 5 { 1 } else { stamp - 1 };
+        let _ = answered(state, stamp, reborrow(parent))?;
+    }
+    if halves {
+        let _ = answered(state, 105, load(HALF, 3))?;
+    }
+    let _ = answered(state, 106, load(WORD, 2))?;
+    match answered(state, 107, load(WORD, 2))? {
+        Some((reply, raised)) if reply.verdict == CLEAN => Ok(Some(raised)),
+        _ => Ok(None),
+    }
+}
+
+#[test]
+fn a_repeated_load_looks_at_the_ring(rt: HostRuntime) -> Result<(), Fail> {
+    for (halves, most) in [(false, 4), (true, 8)] {
+        let mut state = AllocState::unmade(rt.alloc(), AllocNo(1));
+        match raised_by_repeat(&mut state, halves)? {
+            Some(raised) => assert!(rt; 1 <= raised && raised <= most),
+            None => return Err(Fail::new("denied")),
+        }
     }
     Ok(())
 }

@@ -1,9 +1,12 @@
 -- What follows from the clause of the top call where a content is told.
-use Rattle.std.proofs.Common.{◌≡◌, ◌≤◌, ◌⊎◌, ℕ, List, length, Option, Some, None, sym, ap, subst, ◌∙◌, arith, inl, inr}
+use Rattle.std.proofs.Common.{◌≡◌, ◌≤◌, ◌⊎◌, ℕ, List, length, Option, Some, None, refl, sym, ap, subst, ◌∙◌, arith, inl, inr}
 use Rattle.std.specs.Io.KnownBytes.{Appends}
+use Rattle.std.specs.Option.{IsSomeAnd}
 use Rattle.outside_io.specs.Reading.{Tells, IsLongerThan}
-use Rattle.command_words.specs.Jobs.{Job, job_of}
-use Rattle.command_words.specs.Jobs.Job.{Check, Instrument, Solo}
+use Rattle.command_words.specs.Jobs.{Job, Settings, job_of}
+use Rattle.command_words.specs.Jobs.Job.{Check, Instrument, Replay}
+use Rattle.core_model.specs.Kept.{Replayed}
+use Rattle.ir_ast.specs.declared.hosts.HostTable.{HostTable}
 use Rattle.ir_ast.specs.declared.program.Program.{Program}
 use Rattle.ir_text.specs.Bytes.{most_bytes}
 use Rattle.ir_reader.specs.Readings.{IsProgramOf, Refuses}
@@ -15,15 +18,16 @@ use Rattle.ir_rules.specs.Rules.{IsAccepted, IsFirstBroken}
 use Rattle.target_code.specs.Texts.{target_text}
 use Rattle.target_code.specs.declared.line.Target.{Target}
 use Rattle.history.specs.declared.record.RunRecord.{RunRecord}
-use Rattle.bsan.specs.Words.{Text, file_in, IsCheck, IsInstrument, IsSolo}
-use Rattle.bsan.specs.Seen.{FilesSeen, SinkSeen, Failed, Puts}
+use Rattle.bsan.specs.Words.{Text, file_in, OfInputFile}
+use Rattle.bsan.specs.Seen.{FilesSeen, SinkSeen, Failed, WasTooLong, IsFault, Puts}
 use Rattle.bsan.specs.Seen.Puts.{whole, failed, no_memory}
 use Rattle.bsan.specs.Lines.{accepted_line}
-use Rattle.bsan.specs.Runs.{no_hosts}
-use Rattle.bsan.specs.Answer.{OfText, OfProgram, FindsIn, HasCause, Answers, text_for, status_for}
-use Rattle.bsan.specs.Causes.{IsCutShort, IsBroken, IsLarger, IsUnread, TellsText, IsServed, IsComplete}
+use Rattle.bsan.specs.Runs.{IsInput, IsOfRun}
+use Rattle.bsan.specs.Answer.{OfFile, OfText, OfProgram, OfJob, FindsIn, HasCause, Answers, text_for, status_for}
+use Rattle.bsan.specs.Causes.{IsCutShort, IsUnread, ComesBetween, IsRefused, IsBroken, TellsText, IsGiven, IsGivenInput, HasInput, IsServed, IsComplete}
+use Rattle.bsan.specs.declared.outcome.Role.TheVariants as role
 use Rattle.bsan.specs.declared.outcome.Outcome.{Outcome}
-use Rattle.bsan.specs.declared.outcome.Outcome.TheVariants.{Usage, FileFault, TooLong, NotRead, NotVerified, Accepted, Instrumented, NotBuilt, Ran}
+use Rattle.bsan.specs.declared.outcome.Outcome.TheVariants.{Usage, FileFault, TooLong, NotRead, NotVerified, Accepted, Instrumented, Ran}
 
 same_job : (words : List Text) (job other : Job) → job_of words ≡ Some job → job_of words ≡ Some other → job ≡ other
 same_job words job other is also = let same : Some job ≡ Some other = sym is ∙ also in cc
@@ -50,18 +54,8 @@ of_none : (text : List ℕ) (P : Program → Type 0) (read_fault : ReadFault) �
 of_none text P read_fault refused of = not_both text of.program read_fault of.reads refused
 
 -- in an accepted program no rule is broken
-unbroken : (program : Program) (rule : Rule) (at : ℕ) → IsAccepted program no_hosts → IsFirstBroken program no_hosts (fault rule at) → ⊥
-unbroken program rule at accepted first = accepted rule at first.0
-
-not_check_and_solo : (job : Job) → IsCheck job → IsSolo job → ⊥
-not_check_and_solo (Check file) check solo = solo
-not_check_and_solo (Instrument file) check solo = check
-not_check_and_solo (Solo file) check solo = check
-
-not_instrument_and_solo : (job : Job) → IsInstrument job → IsSolo job → ⊥
-not_instrument_and_solo (Check file) instrument solo = solo
-not_instrument_and_solo (Instrument file) instrument solo = solo
-not_instrument_and_solo (Solo file) instrument solo = instrument
+unbroken : (program : Program) (hosts : HostTable) (rule : Rule) (at : ℕ) → IsAccepted program hosts → IsFirstBroken program hosts (fault rule at) → ⊥
+unbroken program hosts rule at accepted first = accepted rule at first.0
 
 -- a text that fits is not longer than the limit
 not_longer : (limit : ℕ) (content : Option (List ℕ)) (text : List ℕ) → IsLongerThan limit content → content ≡ Some text → length text ≤ limit → ⊥
@@ -69,105 +63,124 @@ not_longer limit None text longer is fits = absurd cc
 not_longer limit (Some content) text longer is fits =
     let same : content ≡ text = cc in omega (arith, longer, ap length same, fits)
 
+-- a file that is given was read
+not_unread : (files : FilesSeen) (file : Text) (bytes : List ℕ) → IsGiven files file bytes → IsFault files file → ⊥
+not_unread files file bytes given (inl fault) = given.no_fault fault
+not_unread files file bytes given (inr long) = not_longer most_bytes (files.content file) bytes long.longer given.content given.within
+
+not_unread_input : (files : FilesSeen) (file : Option Text) (bytes : List ℕ) (P : Text → Type 0) → IsGivenInput files file bytes
+    → ((name : Text) → P name → IsFault files name) → IsSomeAnd file P → ⊥
+not_unread_input files None bytes P given fault of = of
+not_unread_input files (Some name) bytes P given fault of = not_unread files name bytes given (fault name of)
+
+-- the input that was read is the one that is given
+same_input : (files : FilesSeen) (file : Option Text) (read given : List ℕ) → IsInput files file read → IsGivenInput files file given → read ≡ given
+same_input files None read given is also = is ∙ sym also
+same_input files (Some name) read given is also = told_bytes (files.content name) read given is.told also.content
+
 -- one put answers the status, unless it is cut short
 put_answer : (sink : SinkSeen) (text : List ℕ) (status answer : ℕ) → Puts sink text status answer → (answer ≡ status) ⊎ IsCutShort answer
 put_answer sink text status answer (whole is appends) = inl is
 put_answer sink text status answer (failed is rose prefix) = inr (inl is)
 put_answer sink text status answer (no_memory is keeps) = inr (inr is)
 
--- the answer after one put, or after the file was not read
-one_put : (sink : SinkSeen) (text : List ℕ) (status answer : ℕ) → Puts sink text status answer
-    → (answer ≡ status) ⊎ (answer ≡ 7) ⊎ IsCutShort answer
-one_put sink text status answer puts = elim (put_answer sink text status answer puts) [ inl is ↦ inl is | inr cut ↦ inr (inr cut) ]
+-- the answer after one put, or after the program's file was not read
+one_put : (files : FilesSeen) (sink : SinkSeen) (words : List Text) (text : List ℕ) (status answer : ℕ) → Puts sink text status answer
+    → (answer ≡ status) ⊎ ComesBetween files words answer
+one_put files sink words text status answer puts =
+    elim (put_answer sink text status answer puts) [ inl is ↦ inl is | inr cut ↦ inr (inr cut) ]
 
--- a program in which a rule is broken is neither accepted nor run
-unread_program : (text : List ℕ) (job : Job) (P : Program → Type 0) → IsUnread job text
-    → ((program : Program) → P program → IsSolo job → IsLarger program → ⊥) → OfProgram P text → ⊥
-unread_program text job P (inl refused) differ of = of_none text P refused.0 refused.1 of
-unread_program text job P (inr larger) differ of =
-    differ larger.1.program (of_one text P larger.1.program larger.1.reads of) larger.0 larger.1.holds
+file_fault : (files : FilesSeen) (sink : SinkSeen) (words : List Text) (text : List ℕ) (status answer : ℕ) → IsUnread files words → Puts sink text 7 answer
+    → (answer ≡ status) ⊎ ComesBetween files words answer
+file_fault files sink words text status answer unread puts =
+    elim (put_answer sink text 7 answer puts) [ inl is ↦ inr (inl (is, unread)) | inr cut ↦ inr (inr cut) ]
 
--- a content that is told and refused, or too large to run, is told so
-pub refused : (files : FilesSeen) (sink : SinkSeen) (words : List Text) (kept : RunRecord) (answer : ℕ)
-    → Answers files sink words kept answer → TellsText files words IsUnread → (answer ≡ 3) ⊎ (answer ≡ 7) ⊎ IsCutShort answer
-refused files sink words kept answer (inr out) tells = inr (inr (inr out.status))
-refused files sink words kept answer (inl told) tells = by_found told.found told.cause told.puts
+unread_by : (files : FilesSeen) (words : List Text) (P : Text → Type 0) → ((file : Text) → P file → IsFault files file) → OfFile words P → IsUnread files words
+unread_by files words P fault of = record { job = of.job; asked = of.asked; holds = fault (file_in of.job) of.holds }
+
+-- a content that is told and refused is told so
+pub refused : (files : FilesSeen) (hosts : HostTable) (sink : SinkSeen) (words : List Text) (kept : RunRecord) (answer : ℕ)
+    → Answers files hosts sink words kept answer → TellsText files words (λ job text. IsRefused text) → (answer ≡ 3) ⊎ ComesBetween files words answer
+refused files hosts sink words kept answer (inr out) tells = inr (inr (inr out.status))
+refused files hosts sink words kept answer (inl told) tells = by_found told.found told.cause told.puts
   where
-    at_text : (P : Job → List ℕ → Type 0) → OfText files words P → P tells.job tells.text
-    at_text P of = of_told files words P tells.job tells.text tells.asked tells.content of
+    unless : (found : Outcome) → OfJob files hosts words kept found → ⊥
+    unless found of =
+        of_none tells.text (FindsIn files hosts kept found tells.job) tells.holds.0 tells.holds.1
+        (of_told files words (λ job text. OfProgram (FindsIn files hosts kept found job) text) tells.job tells.text tells.asked tells.content of)
 
-    by_found : (found : Outcome) → HasCause files words kept found → Puts sink (text_for found kept) (status_for found kept) answer
-        → (answer ≡ 3) ⊎ (answer ≡ 7) ⊎ IsCutShort answer
+    by_found : (found : Outcome) → HasCause files hosts words kept found → Puts sink (text_for found kept) (status_for found kept) answer
+        → (answer ≡ 3) ⊎ ComesBetween files words answer
     by_found Usage cause puts = absurd (let same : None ≡ Some tells.job = sym cause.0 ∙ tells.asked in cc)
-    by_found FileFault cause puts = inr (put_answer sink _ 7 answer puts)
-    by_found TooLong cause puts = inr (put_answer sink _ 7 answer puts)
-    by_found (NotRead read_fault) cause puts = one_put sink _ 3 answer puts
-    by_found (NotVerified rule at) cause puts =
-        absurd (unread_program tells.text tells.job (FindsIn kept (NotVerified rule at) tells.job) tells.holds
-        (λ program finds solo larger. unbroken program rule at larger.accepted finds.0)
-        (at_text (λ job text. OfProgram (FindsIn kept (NotVerified rule at) job) text) cause))
-    by_found (Accepted functions instructions) cause puts =
-        absurd (unread_program tells.text tells.job (FindsIn kept (Accepted functions instructions) tells.job) tells.holds
-        (λ program finds solo larger. not_check_and_solo tells.job finds.0 solo)
-        (at_text (λ job text. OfProgram (FindsIn kept (Accepted functions instructions) job) text) cause))
-    by_found (Instrumented target) cause puts =
-        absurd (unread_program tells.text tells.job (FindsIn kept (Instrumented target) tells.job) tells.holds
-        (λ program finds solo larger. not_instrument_and_solo tells.job finds.0 solo)
-        (at_text (λ job text. OfProgram (FindsIn kept (Instrumented target) job) text) cause))
-    by_found NotBuilt cause puts = one_put sink _ 3 answer puts
-    by_found Ran cause puts =
-        absurd (unread_program tells.text tells.job (FindsIn kept Ran tells.job) tells.holds
-        (λ program finds solo larger. larger.larger finds.2)
-        (at_text (λ job text. OfProgram (FindsIn kept Ran job) text) cause))
+    by_found (FileFault role.Program) cause puts =
+        file_fault files sink words _ 3 answer (unread_by files words (λ file. Failed files file) (λ file is. inl is) cause.0) puts
+    by_found (FileFault role.Input) cause puts = absurd (unless (FileFault role.Input) cause)
+    by_found (TooLong role.Program) cause puts =
+        file_fault files sink words _ 3 answer (unread_by files words (λ file. WasTooLong files file most_bytes) (λ file is. inr is) cause.0) puts
+    by_found (TooLong role.Input) cause puts = absurd (unless (TooLong role.Input) cause)
+    by_found (NotRead read_fault) cause puts = one_put files sink words _ 3 answer puts
+    by_found (NotVerified rule at) cause puts = absurd (unless (NotVerified rule at) cause)
+    by_found (Accepted functions instructions) cause puts = absurd (unless (Accepted functions instructions) cause)
+    by_found (Instrumented target) cause puts = absurd (unless (Instrumented target) cause)
+    by_found Ran cause puts = absurd (unless Ran cause)
 
 -- a content that is told, and a program's in which a rule is broken, is told so
-pub broken : (files : FilesSeen) (sink : SinkSeen) (words : List Text) (kept : RunRecord) (answer : ℕ)
-    → Answers files sink words kept answer → TellsText files words (λ job text. OfProgram IsBroken text)
-    → (answer ≡ 4) ⊎ (answer ≡ 7) ⊎ IsCutShort answer
-broken files sink words kept answer (inr out) tells = inr (inr (inr out.status))
-broken files sink words kept answer (inl told) tells = by_found told.found told.cause told.puts
+pub broken : (files : FilesSeen) (hosts : HostTable) (sink : SinkSeen) (words : List Text) (kept : RunRecord) (answer : ℕ)
+    → Answers files hosts sink words kept answer → TellsText files words (λ job text. OfProgram (IsBroken hosts) text)
+    → (answer ≡ 4) ⊎ ComesBetween files words answer
+broken files hosts sink words kept answer (inr out) tells = inr (inr (inr out.status))
+broken files hosts sink words kept answer (inl told) tells = by_found told.found told.cause told.puts
   where
-    at_text : (P : Job → List ℕ → Type 0) → OfText files words P → P tells.job tells.text
-    at_text P of = of_told files words P tells.job tells.text tells.asked tells.content of
-
-    in_program : (found : Outcome) → OfText files words (λ job text. OfProgram (FindsIn kept found job) text) → FindsIn kept found tells.job tells.holds.program
+    in_program : (found : Outcome) → OfJob files hosts words kept found → FindsIn files hosts kept found tells.job tells.holds.program
     in_program found of =
-        of_one tells.text (FindsIn kept found tells.job) tells.holds.program tells.holds.reads
-        (at_text (λ job text. OfProgram (FindsIn kept found job) text) of)
+        of_one tells.text (FindsIn files hosts kept found tells.job) tells.holds.program tells.holds.reads
+        (of_told files words (λ job text. OfProgram (FindsIn files hosts kept found job) text) tells.job tells.text tells.asked tells.content of)
 
-    unless : IsAccepted tells.holds.program no_hosts → ⊥
+    unless : IsAccepted tells.holds.program hosts → ⊥
     unless accepted = accepted tells.holds.holds.0 tells.holds.holds.1 tells.holds.holds.2
 
-    by_found : (found : Outcome) → HasCause files words kept found → Puts sink (text_for found kept) (status_for found kept) answer
-        → (answer ≡ 4) ⊎ (answer ≡ 7) ⊎ IsCutShort answer
+    by_found : (found : Outcome) → HasCause files hosts words kept found → Puts sink (text_for found kept) (status_for found kept) answer
+        → (answer ≡ 4) ⊎ ComesBetween files words answer
     by_found Usage cause puts = absurd (let same : None ≡ Some tells.job = sym cause.0 ∙ tells.asked in cc)
-    by_found FileFault cause puts = inr (put_answer sink _ 7 answer puts)
-    by_found TooLong cause puts = inr (put_answer sink _ 7 answer puts)
+    by_found (FileFault role.Program) cause puts =
+        file_fault files sink words _ 4 answer (unread_by files words (λ file. Failed files file) (λ file is. inl is) cause.0) puts
+    by_found (FileFault role.Input) cause puts = absurd (unless (in_program (FileFault role.Input) cause).0)
+    by_found (TooLong role.Program) cause puts =
+        file_fault files sink words _ 4 answer (unread_by files words (λ file. WasTooLong files file most_bytes) (λ file is. inr is) cause.0) puts
+    by_found (TooLong role.Input) cause puts = absurd (unless (in_program (TooLong role.Input) cause).0)
     by_found (NotRead read_fault) cause puts =
-        absurd (of_none tells.text IsBroken read_fault (at_text (λ job text. Refuses text read_fault) cause.0) tells.holds)
-    by_found (NotVerified rule at) cause puts = one_put sink _ 4 answer puts
+        absurd (of_none tells.text (IsBroken hosts) read_fault
+        (of_told files words (λ job text. Refuses text read_fault) tells.job tells.text tells.asked tells.content cause.0) tells.holds)
+    by_found (NotVerified rule at) cause puts = one_put files sink words _ 4 answer puts
     by_found (Accepted functions instructions) cause puts = absurd (unless (in_program (Accepted functions instructions) cause).1)
     by_found (Instrumented target) cause puts = absurd (unless (in_program (Instrumented target) cause).1)
-    by_found NotBuilt cause puts = absurd (unless (in_program NotBuilt cause).1)
-    by_found Ran cause puts = absurd (unless (in_program Ran cause).1)
+    by_found Ran cause puts = absurd (unless (in_program Ran cause).0)
 
 -- where all is well, the job is served, or want of memory comes
-pub complete : (files : FilesSeen) (sink : SinkSeen) (words : List Text) (kept : RunRecord) (answer : ℕ)
-    → Answers files sink words kept answer → IsComplete files sink words kept answer
-complete files sink words kept answer (inr out) job text program well = inr out.status
-complete files sink words kept answer (inl told) job text program well = by_found told.found told.cause told.puts
+pub complete : (files : FilesSeen) (hosts : HostTable) (sink : SinkSeen) (words : List Text) (kept : RunRecord) (answer : ℕ)
+    → Answers files hosts sink words kept answer → IsComplete files hosts sink words kept answer
+complete files hosts sink words kept answer (inr out) job text input program well = inr out.status
+complete files hosts sink words kept answer (inl told) job text input program well = by_found told.found told.cause told.puts
   where
-    at_text : (P : Job → List ℕ → Type 0) → OfText files words P → P job text
-    at_text P of = of_told files words P job text well.asked well.content of
-
-    in_program : (found : Outcome) → OfText files words (λ job text. OfProgram (FindsIn kept found job) text) → FindsIn kept found job program
+    in_program : (found : Outcome) → OfJob files hosts words kept found → FindsIn files hosts kept found job program
     in_program found of =
-        of_one text (FindsIn kept found job) program well.reads (at_text (λ j t. OfProgram (FindsIn kept found j) t) of)
+        of_one text (FindsIn files hosts kept found job) program well.reads
+        (of_told files words (λ j t. OfProgram (FindsIn files hosts kept found j) t) job text well.asked well.given.content of)
 
-    checked : (functions instructions : ℕ) (asked : Job) → FindsIn kept (Accepted functions instructions) asked program
-        → Puts sink (accepted_line functions instructions) 0 answer → IsServed sink kept program answer asked ⊎ (answer ≡ 9)
+    was_read : (P : Text → Type 0) → ((file : Text) → P file → IsFault files file) → OfFile words P → ⊥
+    was_read P fault of =
+        let here : of.job ≡ job = same_job words of.job job of.asked well.asked in
+        not_unread files (file_in job) text well.given (fault (file_in job) (subst (λ (j : Job). P (file_in j)) here of.holds))
+
+    input_was_read : (P : Text → Type 0) → ((file : Text) → P file → IsFault files file) → (asked : Job) → HasInput files input asked → OfInputFile P asked → ⊥
+    input_was_read P fault (Check file) has of = of
+    input_was_read P fault (Instrument file) has of = of
+    input_was_read P fault (Replay file schedule settings) has of = not_unread_input files settings.input input P has fault of
+
+    checked : (functions instructions : ℕ) (asked : Job) → FindsIn files hosts kept (Accepted functions instructions) asked program
+        → Puts sink (accepted_line functions instructions) 0 answer → IsServed hosts sink kept program input answer asked ⊎ (answer ≡ 9)
     checked functions instructions (Instrument file) finds puts = absurd finds.0
-    checked functions instructions (Solo file) finds puts = absurd finds.0
+    checked functions instructions (Replay file schedule settings) finds puts = absurd finds.0
     checked functions instructions (Check file) finds (failed is rose prefix) = absurd (well.no_put_fault rose)
     checked functions instructions (Check file) finds (no_memory is keeps) = inr is
     checked functions instructions (Check file) finds (whole is appends) = inl (record {
@@ -175,10 +188,10 @@ complete files sink words kept answer (inl told) job text program well = by_foun
       text = rw (← finds.2, ← finds.3) appends;
     })
 
-    instrumented : (target : Target) (asked : Job) → FindsIn kept (Instrumented target) asked program
-        → Puts sink (target_text target) 0 answer → IsServed sink kept program answer asked ⊎ (answer ≡ 9)
+    instrumented : (target : Target) (asked : Job) → FindsIn files hosts kept (Instrumented target) asked program
+        → Puts sink (target_text target) 0 answer → IsServed hosts sink kept program input answer asked ⊎ (answer ≡ 9)
     instrumented target (Check file) finds puts = absurd finds.0
-    instrumented target (Solo file) finds puts = absurd finds.0
+    instrumented target (Replay file schedule settings) finds puts = absurd finds.0
     instrumented target (Instrument file) finds (failed is rose prefix) = absurd (well.no_put_fault rose)
     instrumented target (Instrument file) finds (no_memory is keeps) = inr is
     instrumented target (Instrument file) finds (whole is appends) = inl (record {
@@ -186,35 +199,32 @@ complete files sink words kept answer (inl told) job text program well = by_foun
       text = subst (λ (t : Target). Appends sink.taken_before sink.taken_after (target_text t)) finds.2 appends;
     })
 
-    not_built : (asked : Job) → FindsIn kept NotBuilt asked program → IsServed sink kept program answer asked ⊎ (answer ≡ 9)
-    not_built (Check file) finds = absurd finds.0
-    not_built (Instrument file) finds = absurd finds.0
-    not_built (Solo file) finds = inl (λ can. absurd (finds.2 can))
+    ran : (asked : Job) → HasInput files input asked → IsOfRun files hosts kept program asked → Puts sink (text_for Ran kept) (status_for Ran kept) answer
+        → IsServed hosts sink kept program input answer asked ⊎ (answer ≡ 9)
+    ran (Check file) has of puts = absurd of
+    ran (Instrument file) has of puts = absurd of
+    ran (Replay file schedule settings) has of (failed is rose prefix) = absurd (well.no_put_fault rose)
+    ran (Replay file schedule settings) has of (no_memory is keeps) = inr is
+    ran (Replay file schedule settings) has of (whole is appends) = inl (record {
+      run = subst (λ (bytes : List ℕ). Replayed program bytes hosts settings.limits schedule kept) (same_input files settings.input of.0 input of.1 has) of.2;
+      status = is;
+      text = appends;
+    })
 
-    ran : (asked : Job) → FindsIn kept Ran asked program → Puts sink (text_for Ran kept) (status_for Ran kept) answer
-        → IsServed sink kept program answer asked ⊎ (answer ≡ 9)
-    ran (Check file) finds puts = absurd finds.0
-    ran (Instrument file) finds puts = absurd finds.0
-    ran (Solo file) finds (whole is appends) = inl (λ can. record { right = finds.3; status = is; text = appends })
-    ran (Solo file) finds (failed is rose prefix) = absurd (well.no_put_fault rose)
-    ran (Solo file) finds (no_memory is keeps) = inr is
-
-    by_found : (found : Outcome) → HasCause files words kept found → Puts sink (text_for found kept) (status_for found kept) answer
-        → IsServed sink kept program answer job ⊎ (answer ≡ 9)
+    by_found : (found : Outcome) → HasCause files hosts words kept found → Puts sink (text_for found kept) (status_for found kept) answer
+        → IsServed hosts sink kept program input answer job ⊎ (answer ≡ 9)
     by_found Usage cause puts = absurd (let same : None ≡ Some job = sym cause.0 ∙ well.asked in cc)
-    by_found FileFault cause puts =
-        let here : cause.0.job ≡ job = same_job words cause.0.job job cause.0.asked well.asked in
-        absurd (well.no_fault (subst (λ (j : Job). Failed files (file_in j)) here cause.0.holds))
-    by_found TooLong cause puts =
-        let here : cause.0.job ≡ job = same_job words cause.0.job job cause.0.asked well.asked in
-        absurd (not_longer most_bytes (files.content (file_in cause.0.job)) text cause.0.holds.longer
-        (ap (λ (j : Job). files.content (file_in j)) here ∙ well.content) well.reads.small)
+    by_found (FileFault role.Program) cause puts = absurd (was_read (λ file. Failed files file) (λ file is. inl is) cause.0)
+    by_found (FileFault role.Input) cause puts =
+        absurd (input_was_read (λ file. Failed files file) (λ file is. inl is) job well.has_input (in_program (FileFault role.Input) cause).1)
+    by_found (TooLong role.Program) cause puts = absurd (was_read (λ file. WasTooLong files file most_bytes) (λ file is. inr is) cause.0)
+    by_found (TooLong role.Input) cause puts =
+        absurd (input_was_read (λ file. WasTooLong files file most_bytes) (λ file is. inr is) job well.has_input (in_program (TooLong role.Input) cause).1)
     by_found (NotRead read_fault) cause puts =
-        absurd (not_both text program read_fault well.reads (at_text (λ j t. Refuses t read_fault) cause.0))
+        absurd (not_both text program read_fault well.reads (of_told files words (λ j t. Refuses t read_fault) job text well.asked well.given.content cause.0))
     by_found (NotVerified rule at) cause puts =
-        absurd (unbroken program rule at well.accepted (in_program (NotVerified rule at) cause).0)
+        absurd (unbroken program hosts rule at well.accepted (in_program (NotVerified rule at) cause).0)
     by_found (Accepted functions instructions) cause puts =
         checked functions instructions job (in_program (Accepted functions instructions) cause) puts
     by_found (Instrumented target) cause puts = instrumented target job (in_program (Instrumented target) cause) puts
-    by_found NotBuilt cause puts = not_built job (in_program NotBuilt cause)
-    by_found Ran cause puts = ran job (in_program Ran cause) puts
+    by_found Ran cause puts = ran job well.has_input (in_program Ran cause).1 puts

@@ -1,10 +1,29 @@
--- How refusals and acceptance are told.
+-- How refusals, faults and acceptance are told.
 use Rattle.std.specs.Prelude.{ℕ, List, [], ◌∷◌, ◌++◌, codes}
 use Rattle.std.specs.Fmt.{decimal}
 use Rattle.ir_reader.specs.FaultTexts.{fault_text}
 use Rattle.ir_reader.specs.declared.fault.ReadFault.{ReadFault}
 use Rattle.ir_rules.specs.declared.rule.Rule.{Rule}
 use Rattle.ir_rules.specs.Least.{name_of}
+use Rattle.bsan.specs.declared.outcome.Role.{Role}
+use Rattle.bsan.specs.declared.outcome.Role.TheVariants.{Program, Input}
+
+abbrev pub usage_text : List ℕ
+usage_text =
+    codes "usage: bsan check FILE | instrument FILE | solo FILE | replay FILE SCHEDULE" ++ 10
+    ∷ (codes "options of solo and replay: --input FILE --steps N --turns N --allocs N" ++ 10 ∷ [])
+
+abbrev pub role_text : Role → List ℕ
+role_text Program = codes "program"
+role_text Input = codes "input"
+
+-- read fault: ROLE
+abbrev pub file_fault_line : Role → List ℕ
+file_fault_line role = codes "read fault: " ++ (role_text role ++ 10 ∷ [])
+
+-- too long: ROLE
+abbrev pub too_long_line : Role → List ℕ
+too_long_line role = codes "too long: " ++ (role_text role ++ 10 ∷ [])
 
 -- not read: FAULT at PLACE
 abbrev pub fault_line : ReadFault → List ℕ

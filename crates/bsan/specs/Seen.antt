@@ -1,9 +1,10 @@
 -- What a call sees of the world: files and a sink, before it and after it.
-use Rattle.std.specs.Prelude.{◌≡◌, ◌≤◌, ℕ, List, length, Option}
+use Rattle.std.specs.Prelude.{◌≡◌, ◌≤◌, ◌⊎◌, ℕ, List, length, Option}
 use Rattle.std.specs.Io.KnownBytes.{Appends, Keeps}
 use Rattle.outside_io.specs.Counts.{Rose}
 use Rattle.outside_io.specs.Reading.{Tells, IsLongerThan}
 use Rattle.outside_io.specs.Putting.{AppendsPrefix}
+use Rattle.ir_text.specs.Bytes.{most_bytes}
 use Rattle.bsan.specs.Words.{Text}
 
 -- files: what is told of each content, and the counts of faults and of overlong reads
@@ -46,6 +47,10 @@ Failed files file = Rose (files.faults_before file) (files.faults_after file)
 pub record WasTooLong (files : FilesSeen) (file : Text) (limit : ℕ) : Type 0 where
   pub rose : Rose (files.overlong_before file limit) (files.overlong_after file limit)
   pub longer : IsLongerThan limit (files.content file)
+
+-- one of the two
+abbrev pub IsFault : FilesSeen → Text → Type 0
+IsFault files file = Failed files file ⊎ WasTooLong files file most_bytes
 
 -- these bytes were read of the file: its content, where that is told
 pub record WasRead (files : FilesSeen) (file : Text) (limit : ℕ) (bytes : List ℕ) : Type 0 where

@@ -1,17 +1,59 @@
-//! How refusals and acceptance are told.
+//! How refusals, faults and acceptance are told.
 ghost use Rattle.std.specs.Prelude.{◌≡◌, IfOk};
 ghost use Rattle.bsan.specs.Lines as lines;
 
+use crate::outcome::Role;
 use bsan_ids::NoMemory;
 use ir_reader::ReadFault;
 use ir_rules::Rule;
 use std::alloc::Global;
 
+/// How the program is used.
+pub(crate) const USAGE: &str =
+    "usage: bsan check FILE | instrument FILE | solo FILE | replay FILE SCHEDULE\n\
+options of solo and replay: --input FILE --steps N --turns N --allocs N\n";
+
+/// A file's role in a word.
+fn role_name(role: Role) -> &'static str
+    ensures { result.now ≡ lines.role_text role }
+{
+    match role {
+        Role::Program => "program",
+        Role::Input => "input",
+    }
+}
+
+/// The line of a file of which a read failed: `read fault: ROLE`.
+///
+/// # Errors
+///
+/// `NoMemory`: out of memory.
+pub(crate) fn file_fault_line(alloc: Global, role: Role) -> Result<Vec<u8>, NoMemory>
+    ensures { IfOk result (λ line. line.items ≡ lines.file_fault_line role) }
+{
+    let name = role_name(role);
+    let line = format!(in alloc; "read fault: {name}\n")?;
+    Ok(Vec::from_slice(alloc, line.as_bytes())?)
+}
+
+/// The line of a file that is longer than the limit: `too long: ROLE`.
+///
+/// # Errors
+///
+/// `NoMemory`: out of memory.
+pub(crate) fn too_long_line(alloc: Global, role: Role) -> Result<Vec<u8>, NoMemory>
+    ensures { IfOk result (λ line. line.items ≡ lines.too_long_line role) }
+{
+    let name = role_name(role);
+    let line = format!(in alloc; "too long: {name}\n")?;
+    Ok(Vec::from_slice(alloc, line.as_bytes())?)
+}
+
 /// The line of a refusal: `not read: FAULT at PLACE`.
 ///
 /// # Errors
 ///
-/// `NoMemory`: want of memory.
+/// `NoMemory`: out of memory.
 pub(crate) fn fault_line(alloc: Global, fault: ReadFault) -> Result<Vec<u8>, NoMemory>
     ensures { IfOk result (λ line. line.items ≡ lines.fault_line fault) }
 {
@@ -23,7 +65,7 @@ pub(crate) fn fault_line(alloc: Global, fault: ReadFault) -> Result<Vec<u8>, NoM
 ///
 /// # Errors
 ///
-/// `NoMemory`: want of memory.
+/// `NoMemory`: out of memory.
 pub(crate) fn rule_line(alloc: Global, rule: Rule, at: u32) -> Result<Vec<u8>, NoMemory>
     ensures { IfOk result (λ line. line.items ≡ lines.rule_line rule at) }
 {
@@ -35,7 +77,7 @@ pub(crate) fn rule_line(alloc: Global, rule: Rule, at: u32) -> Result<Vec<u8>, N
 ///
 /// # Errors
 ///
-/// `NoMemory`: want of memory.
+/// `NoMemory`: out of memory.
 pub(crate) fn accepted_line(
     alloc: Global,
     functions: u32,

@@ -3,7 +3,7 @@ ghost use Rattle.std.specs.Prelude.{◌≡◌, IfOk};
 ghost use Rattle.report.specs.Report.{IsReportable};
 ghost use Rattle.bsan.specs.Answer as answer;
 
-use crate::lines::{accepted_line, fault_line, rule_line};
+use crate::lines::{USAGE, accepted_line, fault_line, file_fault_line, rule_line, too_long_line};
 use bsan_ids::NoMemory;
 use ir_reader::ReadFault;
 use ir_rules::Rule;
@@ -12,15 +12,22 @@ use run_record::RunRecord;
 use std::alloc::Global;
 use target_code::{Target, text};
 
+/// What a file that the words name is for.
+#[derive(Clone, Copy, Debug, PartialEq, Eq)]
+pub enum Role {
+    Program,
+    Input,
+}
+
 /// What the work of a call found.
 #[derive(Drop)]
 pub enum Outcome {
     /// The words ask for nothing.
     Usage,
-    /// A read of the program's file failed.
-    FileFault,
-    /// The program's file is longer than the limit.
-    TooLong,
+    /// A read of a file failed.
+    FileFault { role: Role },
+    /// A file is longer than the limit.
+    TooLong { role: Role },
     /// The text is no program's.
     NotRead { fault: ReadFault },
     /// A rule is broken in the program.
@@ -29,8 +36,6 @@ pub enum Outcome {
     Accepted { functions: u32, instructions: u32 },
     /// The program is accepted, and its target code was made.
     Instrumented { target: Target },
-    /// The program is accepted, but not small.
-    NotBuilt,
     /// The program was run, and its record kept.
     Ran,
 }
@@ -41,36 +46,34 @@ pub fn status_for(found: &Outcome, kept: &RunRecord) -> u8
 {
     match found {
         Outcome::Usage => 2,
-        Outcome::FileFault | Outcome::TooLong => 7,
-        Outcome::NotRead { .. } | Outcome::NotBuilt => 3,
+        Outcome::FileFault { .. } | Outcome::TooLong { .. } => 7,
+        Outcome::NotRead { .. } => 3,
         Outcome::NotVerified { .. } => 4,
         Outcome::Accepted { .. } | Outcome::Instrumented { .. } => 0,
         Outcome::Ran => status_of(kept),
     }
 }
 
-/// The text of what was found: one line, that of the target code, or the report of the record.
+/// The text of what was found: a line or two, the target code, or the report of the record.
 ///
 /// # Errors
 ///
-/// `NoMemory`: want of memory.
+/// `NoMemory`: out of memory.
 pub fn text_for(alloc: Global, found: &Outcome, kept: &RunRecord) -> Result<Vec<u8>, NoMemory>
     requires { found.now ≡ Outcome.Ran → IsReportable kept.now }
     ensures { IfOk result (λ text. text.items ≡ answer.text_for found.now kept.now) }
 {
-    let line = match found {
-        Outcome::Usage => "usage: bsan check FILE | instrument FILE | solo FILE\n",
-        Outcome::FileFault => "read fault: program\n",
-        Outcome::TooLong => "too long: program\n",
-        Outcome::NotRead { fault } => return fault_line(alloc, *fault),
-        Outcome::NotVerified { rule, at } => return rule_line(alloc, *rule, *at),
+    match found {
+        Outcome::Usage => Ok(Vec::from_slice(alloc, USAGE.as_bytes())?),
+        Outcome::FileFault { role } => file_fault_line(alloc, *role),
+        Outcome::TooLong { role } => too_long_line(alloc, *role),
+        Outcome::NotRead { fault } => fault_line(alloc, *fault),
+        Outcome::NotVerified { rule, at } => rule_line(alloc, *rule, *at),
         Outcome::Accepted {
             functions,
             instructions,
-        } => return accepted_line(alloc, *functions, *instructions),
-        Outcome::Instrumented { target } => return text(alloc, target),
-        Outcome::NotBuilt => "not read: NotBuilt\n",
-        Outcome::Ran => return text_of(alloc, kept),
-    };
-    Ok(Vec::from_slice(alloc, line.as_bytes())?)
+        } => accepted_line(alloc, *functions, *instructions),
+        Outcome::Instrumented { target } => text(alloc, target),
+        Outcome::Ran => text_of(alloc, kept),
+    }
 }

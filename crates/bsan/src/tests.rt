@@ -1,8 +1,9 @@
 use crate::bsan_alone;
-use bsan_ids::Name;
+use bsan_ids::{ListOf, Name};
+use hosts::{Hosts, standard_answer, standard_table};
 use outside_io::{MemFiles, MemSink};
-use run_record::RunRecord;
-use std::alloc::{AllocError, Global};
+use run_record::{RunRecord, ThreadLog};
+use std::alloc::Global;
 use std::test::Fail;
 
 const SMALLEST: &str = "bir 1\nfunc @main() -> i64 {\nentry:\n  ret i64 0\n}\n";
@@ -10,222 +11,506 @@ const SMALLEST: &str = "bir 1\nfunc @main() -> i64 {\nentry:\n  ret i64 0\n}\n";
 const REPORT: &str =
     "thread 0 returned 0\nsteps 0, allocations 0, threads 1, violations 0\nstatus 0\n";
 
-/// What a call answered and put, and how many threads its record has.
+const USAGE: &str = "usage: bsan check FILE | instrument FILE | solo FILE | replay FILE SCHEDULE\n\
+    options of solo and replay: --input FILE --steps N --turns N --allocs N\n";
+
+/// Files of one call: the program's, which is `p`, and the input's, which is `q`, with the reads that fail.
+#[derive(Clone, Copy)]
+struct Given<'a> {
+    program: &'a str,
+    input: &'a str,
+    failing: &'a [u64],
+}
+
+/// What a call answered and put, and the logs of its record.
 #[derive(Drop)]
 struct Answer {
     status: u8,
     text: Vec<u8>,
-    threads: usize,
+    threads: ListOf<ThreadLog>,
 }
 
-/// A call on one file `p`, where the reads of these numbers fail, with a sink of so much room.
-fn call(
-    alloc: Global,
-    words: &[&str],
-    content: Vec<u8>,
-    failing: &[u64],
-    room: Option<u64>,
-) -> Result<Answer, AllocError> {
-    let mut texts = Vec::new(alloc);
-    for word in words {
-        texts.push(String::from_str(alloc, word)?)?;
+/// A call by the words of a line, which are separated by single blanks, with a sink of so much room.
+fn call(alloc: Global, line: &str, given: &Given<'_>, room: Option<u64>) -> Result<Answer, Fail> {
+    let mut words = Vec::new(alloc);
+    for word in line.split(' ') {
+        words.push(String::from_str(alloc, word)?)?;
     }
-    let name = Name::from_vec(Vec::from_slice(alloc, b"p")?);
-    let held = vec![in alloc; (name, content)]?;
-    let mut files = MemFiles::new(alloc, held, Vec::from_slice(alloc, failing)?);
+    let program = Vec::from_slice(alloc, given.program.as_bytes())?;
+    let input = Vec::from_slice(alloc, given.input.as_bytes())?;
+    let held = vec![in alloc;
+        (Name::from_vec(Vec::from_slice(alloc, b"p")?), program),
+        (Name::from_vec(Vec::from_slice(alloc, b"q")?), input),
+    ]?;
+    let mut files = MemFiles::new(alloc, held, Vec::from_slice(alloc, given.failing)?);
     let mut out = MemSink::new(alloc, room);
+    let Ok(table) = standard_table(alloc) else {
+        return Err(Fail::new("standard_table"));
+    };
+    let hosts = Hosts::new(table, Box::new(alloc, standard_answer)?);
     let mut kept = RunRecord::new(alloc);
-    let status = bsan_alone(alloc, texts.as_slice(), &mut files, &mut out, &mut kept);
+    let status = bsan_alone(
+        alloc,
+        words.as_slice(),
+        &mut files,
+        &mut out,
+        &hosts,
+        &mut kept,
+    );
     let text = Vec::from_slice(alloc, out.taken())?;
     Ok(Answer {
         status,
         text,
-        threads: kept.threads.len(),
+        threads: kept.threads,
     })
 }
 
-/// Programs, what is asked of them, the status and the text that comes.
-const PROGRAMS: [(&str, &str, u8, &str); 18] = [
+/// Words, the program, the status and the text that comes.
+const TEXTS: [(&str, &str, u8, &str); 16] = [
     (
-        "solo",
-        "bir 01 func @main()->i64{entry:ret i64 007}; and no more",
-        0,
-        "thread 0 returned 7\nsteps 0, allocations 0, threads 1, violations 0\nstatus 0\n",
-    ),
-    // The parent's read freezes the child, which then writes.
-    (
-        "solo",
-        "bir 1 func @main() -> i64 { entry: %x = alloca 8 %y = retag mut %x, 8 store i64 1, %y \
-         %v = load i64, %x store i64 2, %y ret i64 0 }",
-        1,
-        "violation on allocation 1 by thread 0 at instruction 4, step 5: write 0..8 through tag 2: node 2 is Frozen at byte 0\n\
-         thread 0 returned 0\nsteps 6, allocations 1, threads 1, violations 1\nstatus 1\n",
-    ),
-    // A write through a shared reborrow.
-    (
-        "solo",
-        "bir 1 func @main() -> i64 { entry: %x = alloca 8 %y = retag shr %x, 8 store i64 1, %y ret i64 0 }",
-        1,
-        "violation on allocation 1 by thread 0 at instruction 2, step 3: write 0..8 through tag 2: node 2 is Frozen at byte 0\n\
-         thread 0 returned 0\nsteps 4, allocations 1, threads 1, violations 1\nstatus 1\n",
-    ),
-    // The parent's read leaves a child that has not written as it is.
-    (
-        "solo",
-        "bir 1 func @main() -> i64 { entry: %x = alloca 8 %y = retag mut %x, 8 %v = load i64, %x \
-         store i64 1, %y ret i64 0 }",
-        0,
-        "thread 0 returned 0\nsteps 5, allocations 1, threads 1, violations 0\nstatus 0\n",
-    ),
-    // The first violation on each allocation.
-    (
-        "solo",
-        "bir 1 func @main() -> i64 { entry: %a = alloca 8 %b = alloca 8 %p = retag shr %a, 8 \
-         %q = retag shr %b, 8 store i64 1, %p store i64 2, %p store i64 3, %q ret i64 0 }",
-        1,
-        "violation on allocation 1 by thread 0 at instruction 4, step 5: write 0..8 through tag 3: node 3 is Frozen at byte 0\n\
-         violation on allocation 2 by thread 0 at instruction 6, step 7: write 0..8 through tag 4: node 4 is Frozen at byte 0\n\
-         thread 0 returned 0\nsteps 9, allocations 2, threads 1, violations 2\nstatus 1\n",
-    ),
-    (
-        "solo",
+        "solo p",
         "bir 1\nfunc @main(",
         3,
         "not read: Unexpected at 17\n",
     ),
     (
-        "check",
+        "check p",
         "bir 1\nfunc @main(",
         3,
         "not read: Unexpected at 17\n",
     ),
     (
-        "solo",
+        "solo p",
         "bir 1\nfunc @main() -> i64 {\nentry:\n  %p = inttoptr 5\n",
         3,
         "not read: IntToPtr at 42\n",
     ),
     (
-        "check",
+        "check p",
         "bir 1\nfunc @main() -> i64 {\nentry:\n  %a = const i8 256\n",
         3,
         "not read: NumberTooLarge at 51\n",
     ),
-    ("solo", "bir 1\n$", 3, "not read: BadByte at 6\n"),
+    ("replay p 0", "bir 1\n$", 3, "not read: BadByte at 6\n"),
     (
-        "solo",
+        "solo p",
         "bir 1\nfunc @main() -> i64 {\nentry:\n  condbr 1, a, b\na:\n  %r = const i64 4\n  br b\nb:\n  ret i64 %r\n}\n",
         4,
         "not verified: Unassigned at 94\n",
     ),
     (
-        "check",
-        "bir 1\nfunc @main() -> i64 {\nentry:\n  condbr 1, a, b\na:\n  %r = const i64 4\n  br b\nb:\n  ret i64 %r\n}\n",
+        "check p",
+        "bir 1\nfunc @main() -> i64 {\nentry:\n  %a = host i64 @popcount(i64 255, i64 1)\n  print i64 %a\n  ret i64 0\n}\n",
         4,
-        "not verified: Unassigned at 94\n",
+        "not verified: BadCall at 51\n",
     ),
     (
-        "check",
+        "check p",
         "bir 1 func @f() -> void { l: ret void }",
         4,
         "not verified: NoMain at 39\n",
     ),
     (
-        "check",
-        "bir 1 func @g(ptr %p) -> i64 { entry: store i64 5, %p %v = load i64, %p ret i64 %v } \
-         func @main() -> i64 { entry: %x = alloca 16 %q = gep %x, 8 %h = spawn @g(ptr %q) store i64 3, %x \
-         %a = load i64, %x %b = join i64 %h %c = load i64, %q %d = add i64 %a, %b %e = add i64 %d, %c \
-         print i64 %e ret i64 0 }",
+        "check p",
+        TWO_HALVES,
         0,
         "accepted: 2 functions, 14 instructions\n",
     ),
     (
-        "instrument",
+        "instrument p",
         "bir 1 func @main() -> i64 { entry: %x = alloca 8 %y = retag shr %x, 8 %v = load i64, %y ret i64 %v }",
         0,
         "target 1\nfunc 0 @main slots 3\npushframe\nblock 0\nturn 0\ns0 h0 = make stack 8\nturn 1\n\
          h1 = retag shr free s0 h0 8\ns1 = s0\nturn 2\ncheck read s1 h1 8\ns2 = load i64 s1\nturn 3\n\
          result = s2\npopframe\nreturn\n",
     ),
-    // Accepted, but larger than what can be run yet.
+    ("solo", SMALLEST, 2, USAGE),
+    ("run p", SMALLEST, 2, USAGE),
+    ("solo p --steps 0", SMALLEST, 2, USAGE),
+    ("replay p 0,,1", SMALLEST, 2, USAGE),
+    ("check p --help", SMALLEST, 2, USAGE),
+    ("solo missing", SMALLEST, 7, "read fault: program\n"),
+];
+
+/// Two threads write and read the two halves of an allocation.
+const TWO_HALVES: &str =
+    "bir 1 func @g(ptr %p) -> i64 { entry: store i64 5, %p %v = load i64, %p ret i64 %v } \
+    func @main() -> i64 { entry: %x = alloca 16 %q = gep %x, 8 %h = spawn @g(ptr %q) store i64 3, %x \
+    %a = load i64, %x %b = join i64 %h %c = load i64, %q %d = add i64 %a, %b %e = add i64 %d, %c \
+    print i64 %e ret i64 0 }";
+
+/// A child loads what main writes through a retagged pointer.
+const RACING: &str = "bir 1 func @f(ptr %x) -> void { e: %v = load i64, %x ret void } \
+    func @main() -> i64 { e: %x = alloca 8 %y = retag mut %x, 8 store i64 1, %y %h = spawn @f(ptr %x) \
+    store i64 2, %y join void %h ret i64 0 }";
+
+/// Words, the program, the status and the report that comes.
+const RUNS: [(&str, &str, u8, &str); 34] = [
     (
-        "solo",
-        "bir 1 func @main() -> i64 { a: br b b: ret i64 0 }",
-        3,
-        "not read: NotBuilt\n",
-    ),
-    (
-        "check",
-        "bir 1 func @main() -> i64 { a: br b b: ret i64 0 }",
+        "solo p",
+        "bir 01 func @main()->i64{entry:ret i64 007}; and no more",
         0,
-        "accepted: 1 functions, 2 instructions\n",
+        "thread 0 returned 7\nsteps 0, allocations 0, threads 1, violations 0\nstatus 0\n",
+    ),
+    // The parent's read freezes the child, which then writes.
+    (
+        "solo p",
+        "bir 1 func @main() -> i64 { entry: %x = alloca 8 %y = retag mut %x, 8 store i64 1, %y \
+        %v = load i64, %x store i64 2, %y ret i64 0 }",
+        1,
+        "violation on allocation 1 by thread 0 at instruction 4, step 5: write 0..8 through tag 2: node 2 is Frozen at byte 0\n\
+        thread 0 returned 0\nsteps 6, allocations 1, threads 1, violations 1\nstatus 1\n",
+    ),
+    // A write through a shared reborrow.
+    (
+        "solo p",
+        "bir 1 func @main() -> i64 { entry: %x = alloca 8 %y = retag shr %x, 8 store i64 1, %y ret i64 0 }",
+        1,
+        "violation on allocation 1 by thread 0 at instruction 2, step 3: write 0..8 through tag 2: node 2 is Frozen at byte 0\n\
+        thread 0 returned 0\nsteps 4, allocations 1, threads 1, violations 1\nstatus 1\n",
+    ),
+    // The parent's read leaves a child that has not written as it is.
+    (
+        "solo p",
+        "bir 1 func @main() -> i64 { entry: %x = alloca 8 %y = retag mut %x, 8 %v = load i64, %x \
+        store i64 1, %y ret i64 0 }",
+        0,
+        "thread 0 returned 0\nsteps 5, allocations 1, threads 1, violations 0\nstatus 0\n",
+    ),
+    // A protected node that became Conflicted writes.
+    (
+        "solo p",
+        "bir 1 func @f(ptr mut(8) %y, ptr %x) -> void { e: %v = load i64, %x store i64 1, %y ret void } \
+        func @main() -> i64 { e: %x = alloca 8 call void @f(ptr %x, ptr %x) ret i64 0 }",
+        1,
+        "violation on allocation 1 by thread 0 at instruction 1, step 4: write 0..8 through tag 2: node 2 is Conflicted at byte 0\n\
+        thread 0 returned 0\nsteps 6, allocations 1, threads 1, violations 1\nstatus 1\n",
+    ),
+    // A foreign read of a protected node that wrote.
+    (
+        "solo p",
+        "bir 1 func @f(ptr mut(8) %y, ptr %x) -> void { e: %p = gep %y, 4 store i32 1, %p %v = load i64, %x ret void } \
+        func @main() -> i64 { e: %x = alloca 8 call void @f(ptr %x, ptr %x) ret i64 0 }",
+        1,
+        "violation on allocation 1 by thread 0 at instruction 2, step 4: read 0..8 through tag 1: protected node 2 is Unique at byte 4\n\
+        thread 0 returned 0\nsteps 6, allocations 1, threads 1, violations 1\nstatus 1\n",
+    ),
+    // A cell that is protected is no cell.
+    (
+        "solo p",
+        "bir 1 func @f(ptr cell(8) %y, ptr %x) -> void { e: store i64 1, %x ret void } \
+        func @main() -> i64 { e: %x = alloca 8 call void @f(ptr %x, ptr %x) ret i64 0 }",
+        1,
+        "violation on allocation 1 by thread 0 at instruction 0, step 3: write 0..8 through tag 1: protected node 2 is Reserved at byte 0\n\
+        thread 0 returned 0\nsteps 5, allocations 1, threads 1, violations 1\nstatus 1\n",
     ),
     (
-        "solo",
-        "bir 1 func @main() -> i64 { a: %x = malloc 8 free %x ret i64 0 }",
-        3,
-        "not read: NotBuilt\n",
+        "solo p",
+        "bir 1 func @main() -> i64 { e: %x = alloca 8 %y = retag cell %x, 8 store i64 1, %x %v = load i64, %y ret i64 0 }",
+        0,
+        "thread 0 returned 0\nsteps 5, allocations 1, threads 1, violations 0\nstatus 0\n",
+    ),
+    // A box may be freed under its protector, and a mutable borrow may not.
+    (
+        "solo p",
+        "bir 1 func @f(ptr box(8) %b) -> void { e: free %b ret void } \
+        func @main() -> i64 { e: %b = malloc 8 call void @f(ptr %b) ret i64 0 }",
+        0,
+        "thread 0 returned 0\nsteps 4, allocations 1, threads 1, violations 0\nstatus 0\n",
+    ),
+    (
+        "solo p",
+        "bir 1 func @f(ptr mut(8) %b) -> void { e: free %b ret void } \
+        func @main() -> i64 { e: %b = malloc 8 call void @f(ptr %b) ret i64 0 }",
+        1,
+        "violation on allocation 1 by thread 0 at instruction 0, step 3: free through tag 2: strongly protected node 2 is Reserved at byte 0\n\
+        thread 0 returned 0\nsteps 4, allocations 1, threads 1, violations 1\nstatus 1\n",
+    ),
+    // A protector's end writes, and disables a sibling.
+    (
+        "solo p",
+        "bir 1 func @f(ptr mut(8) %y, ptr %x) -> ptr { e: store i64 1, %y %q = gep %x, 8 %z = retag mut %q, 8 ret ptr %z } \
+        func @main() -> i64 { e: %x = alloca 16 %z = call ptr @f(ptr %x, ptr %x) %p = gep %z, 18446744073709551608 \
+        %v = load i64, %p ret i64 0 }",
+        1,
+        "violation on allocation 1 by thread 0 at instruction 7, step 6: read 0..8 through tag 4: node 4 is Disabled at byte 0\n\
+        thread 0 returned 0\nsteps 7, allocations 1, threads 1, violations 1\nstatus 1\n",
+    ),
+    (
+        "solo p",
+        "bir 1 func @main() -> i64 { e: %x = alloca 8 %a = retag mut %x, 0 %b = retag mut %x, 8 %q = gep %x, 1 \
+        %c = retag mut %q, 8 ret i64 0 }",
+        1,
+        "violation on allocation 1 by thread 0 at instruction 4, step 3: retag mut 1..9 through tag 1: out of range\n\
+        thread 0 returned 0\nsteps 4, allocations 1, threads 1, violations 1\nstatus 1\n",
+    ),
+    (
+        "solo p",
+        "bir 1 func @main() -> i64 { e: %x = alloca 65536 %y = retag mut %x, 1 %q = gep %y, 65528 store i64 7, %q \
+        %p = gep %x, 65528 %v = load i64, %p print i64 %v store i64 1, %y store i64 9, %q ret i64 0 }",
+        1,
+        "thread 0 prints 7\n\
+        violation on allocation 1 by thread 0 at instruction 8, step 7: write 65528..65536 through tag 2: node 2 is Frozen at byte 65528\n\
+        thread 0 returned 0\nsteps 8, allocations 1, threads 1, violations 1\nstatus 1\n",
+    ),
+    // A pointer into another allocation.
+    (
+        "solo p",
+        "bir 1 func @main() -> i64 { e: %a = alloca 8 %b = alloca 8 %p = gep %a, 4294967296 store i64 5, %p \
+        %v = load i64, %b print i64 %v ret i64 0 }",
+        1,
+        "thread 0 prints 5\n\
+        violation on allocation 2 by thread 0 at instruction 3, step 3: write 0..8 through tag 1 of allocation 1: stranger\n\
+        thread 0 returned 0\nsteps 7, allocations 2, threads 1, violations 1\nstatus 1\n",
+    ),
+    // A pointer that is copied in two pieces keeps its provenance, and one of which a byte is overwritten loses it.
+    (
+        "solo p",
+        "bir 1 func @main() -> i64 { e: %x = alloca 8 %s = alloca 8 %t = alloca 8 store ptr %x, %s memcpy %t, %s, 4 \
+        %s4 = gep %s, 4 %t4 = gep %t, 4 memcpy %t4, %s4, 4 %p = load ptr, %t store i64 1, %p ret i64 0 }",
+        0,
+        "thread 0 returned 0\nsteps 13, allocations 3, threads 1, violations 0\nstatus 0\n",
+    ),
+    (
+        "solo p",
+        "bir 1 func @main() -> i64 { e: %x = alloca 8 %s = alloca 8 %t = alloca 8 store ptr %x, %s memcpy %t, %s, 4 \
+        %s4 = gep %s, 4 %t4 = gep %t, 4 memcpy %t4, %s4, 4 %c = load i8, %t store i8 %c, %t %p = load ptr, %t store i64 1, %p ret i64 0 }",
+        1,
+        "violation on allocation 1 by thread 0 at instruction 11, step 12: write 0..8 through no tag: stranger\n\
+        thread 0 returned 0\nsteps 15, allocations 3, threads 1, violations 1\nstatus 1\n",
+    ),
+    (
+        "replay p 0,0,0,0,1,0",
+        RACING,
+        1,
+        "violation on allocation 1 by thread 0 at instruction 6, step 6: write 0..8 through tag 2: node 2 is Frozen at byte 0\n\
+        thread 0 returned 0\nthread 1 returned 0\nsteps 8, allocations 1, threads 2, violations 1\nstatus 1\n",
+    ),
+    (
+        "replay p 0,0,0,0,0,1",
+        RACING,
+        0,
+        "thread 0 returned 0\nthread 1 returned 0\nsteps 8, allocations 1, threads 2, violations 0\nstatus 0\n",
+    ),
+    ("solo p", TWO_HALVES, 0, HALVES_REPORT),
+    ("replay p 0,0,1,1,1,0", TWO_HALVES, 0, HALVES_REPORT),
+    ("replay p 1023,0", SMALLEST, 0, REPORT),
+    (
+        "solo p",
+        "bir 1 func @main() -> i64 { e: %p = malloc 8 free %p %v = load i64, %p ret i64 0 }",
+        5,
+        "thread 0 trapped: Freed at instruction 2\nsteps 3, allocations 1, threads 1, violations 0\nstatus 5\n",
+    ),
+    (
+        "solo p",
+        "bir 1 func @main() -> i64 { e: %p = malloc 8 free %p free %p ret i64 0 }",
+        5,
+        "thread 0 trapped: Freed at instruction 2\nsteps 3, allocations 1, threads 1, violations 0\nstatus 5\n",
+    ),
+    (
+        "solo p",
+        "bir 1 func @main() -> i64 { e: %x = alloca 8 free %x ret i64 0 }",
+        5,
+        "thread 0 trapped: BadFree at instruction 1\nsteps 2, allocations 1, threads 1, violations 0\nstatus 5\n",
+    ),
+    (
+        "solo p",
+        "bir 1 func @main() -> i64 { e: %p = null %v = load i64, %p ret i64 0 }",
+        5,
+        "thread 0 trapped: NoAllocation at instruction 1\nsteps 1, allocations 0, threads 1, violations 0\nstatus 5\n",
+    ),
+    // The first violation on each allocation.
+    (
+        "solo p",
+        "bir 1 func @main() -> i64 { entry: %a = alloca 8 %b = alloca 8 %p = retag shr %a, 8 \
+        %q = retag shr %b, 8 store i64 1, %p store i64 2, %p store i64 3, %q ret i64 0 }",
+        1,
+        "violation on allocation 1 by thread 0 at instruction 4, step 5: write 0..8 through tag 3: node 3 is Frozen at byte 0\n\
+        violation on allocation 2 by thread 0 at instruction 6, step 7: write 0..8 through tag 4: node 4 is Frozen at byte 0\n\
+        thread 0 returned 0\nsteps 9, allocations 2, threads 1, violations 2\nstatus 1\n",
+    ),
+    // A host's answer has no provenance.
+    (
+        "solo p",
+        "bir 1 func @main() -> i64 { e: %x = alloca 8 %p = host ptr @max(ptr %x, ptr %x) store i64 1, %p ret i64 0 }",
+        1,
+        "violation on allocation 1 by thread 0 at instruction 2, step 3: write 0..8 through no tag: stranger\n\
+        thread 0 returned 0\nsteps 4, allocations 1, threads 1, violations 1\nstatus 1\n",
+    ),
+    (
+        "solo p",
+        "bir 1 func @main() -> i64 { e: %a = host i64 @popcount(i64 255) print i64 %a ret i64 0 }",
+        0,
+        "thread 0 prints 8\nthread 0 returned 0\nsteps 2, allocations 0, threads 1, violations 0\nstatus 0\n",
+    ),
+    (
+        "solo p --turns 5",
+        "bir 1 func @main() -> i64 { entry: br l l: br l }",
+        6,
+        "thread 0 reached the turn limit\nsteps 0, allocations 0, threads 1, violations 0\nstatus 6\n",
+    ),
+    (
+        "solo p",
+        "bir 1 func @f() -> void { e: call void @f() ret void } func @main() -> i64 { e: call void @f() ret i64 0 }",
+        5,
+        "thread 0 trapped: DepthLimit at instruction 0\nsteps 0, allocations 0, threads 1, violations 0\nstatus 5\n",
+    ),
+    (
+        "solo p",
+        "bir 1 func @main() -> i64 { e: %x = alloca 0 ret i64 0 }",
+        5,
+        "thread 0 trapped: BadSize at instruction 0\nsteps 0, allocations 0, threads 1, violations 0\nstatus 5\n",
+    ),
+    (
+        "solo p",
+        "bir 1 func @main() -> i64 { e: %x = udiv i8 1, 0 ret i64 0 }",
+        5,
+        "thread 0 trapped: DivZero at instruction 0\nsteps 0, allocations 0, threads 1, violations 0\nstatus 5\n",
+    ),
+    (
+        "solo p",
+        "bir 1 func @main() -> i64 { e: %x = shl i8 1, 8 ret i64 0 }",
+        5,
+        "thread 0 trapped: ShiftTooFar at instruction 0\nsteps 0, allocations 0, threads 1, violations 0\nstatus 5\n",
+    ),
+    (
+        "solo p --allocs 1",
+        "bir 1 func @main() -> i64 { e: %a = alloca 8 %b = alloca 8 %p = gep %a, 4294967296 store i64 5, %p \
+        %v = load i64, %b print i64 %v ret i64 0 }",
+        5,
+        "thread 0 trapped: AllocLimit at instruction 1\nsteps 1, allocations 1, threads 1, violations 0\nstatus 5\n",
     ),
 ];
+
+const HALVES_REPORT: &str = "thread 0 prints 13\nthread 0 returned 0\nthread 1 returned 5\n\
+    steps 10, allocations 1, threads 2, violations 0\nstatus 0\n";
 
 #[test]
 fn serves_programs(rt: HostRuntime) -> Result<(), Fail> {
     let alloc = rt.alloc();
-    for (command, text, status, want) in PROGRAMS {
-        let content = Vec::from_slice(alloc, text.as_bytes())?;
-        let answer = call(alloc, &[command, "p"], content, &[], None)?;
-        assert_eq!(rt; answer.text.as_slice(), want.as_bytes(), "{text}");
-        assert_eq!(rt; answer.status, status, "{text}");
-        let ran = command == "solo" && status < 2;
-        assert_eq!(rt; answer.threads, if ran { 1 } else { 0 }, "{text}");
+    for (table, runs) in [(TEXTS.as_slice(), false), (RUNS.as_slice(), true)] {
+        for (line, program, status, want) in table {
+            let given = Given {
+                program,
+                input: "",
+                failing: &[],
+            };
+            let answer = call(alloc, line, &given, None)?;
+            assert_eq!(rt;
+                answer.text.as_slice(),
+                want.as_bytes(),
+                "{line}: {program}"
+            );
+            assert_eq!(rt; answer.status, *status, "{line}: {program}");
+            assert_eq!(rt; answer.threads.is_empty(), !runs, "{line}: {program}");
+        }
     }
     Ok(())
 }
 
 #[test]
-fn puts_what_the_sink_has_room_for(rt: HostRuntime) -> Result<(), Fail> {
+fn answers_files_and_sinks(rt: HostRuntime) -> Result<(), Fail> {
     let alloc = rt.alloc();
+    let sums =
+        "bir 1 func @main() -> i64 { e: %a = input 0 %b = input 1 %c = add i64 %a, %b print i64 %c ret i64 0 }";
+    let summed =
+        "thread 0 prints 321\nthread 0 returned 0\nsteps 1, allocations 0, threads 1, violations 0\nstatus 0\n";
+    let cut = "bir 1\nfunc @main(";
+    let unread = "not read: Unexpected at 17\n";
+    // The program and the size to which blanks fill it, the reads that fail, the size of the input, and what comes.
+    let calls: [(&str, usize, &[u64], usize, u8, &str); 9] = [
+        (sums, 0, &[1], 1, 7, "read fault: program\n"),
+        (sums, 0, &[2], 1, 7, "read fault: input\n"),
+        (sums, 0, &[3], 1, 0, summed),
+        (sums, 0, &[], 1_048_577, 7, "too long: input\n"),
+        (cut, 0, &[2], 1, 3, unread),
+        (sums, 1_048_576, &[], 1, 0, summed),
+        (sums, 1_048_577, &[], 1, 7, "too long: program\n"),
+        (sums, 1_048_577, &[1], 1, 7, "read fault: program\n"),
+        (cut, 0, &[], 1_048_577, 3, unread),
+    ];
+    for (program, size, failing, length, status, text) in calls {
+        let mut filled = String::from_str(alloc, program)?;
+        while filled.len() < size {
+            filled.push_str(" ")?;
+        }
+        let mut input = String::from_str(alloc, "A")?;
+        while input.len() < length {
+            input.push_str(" ")?;
+        }
+        let given = Given {
+            program: filled.as_str(),
+            input: input.as_str(),
+            failing,
+        };
+        let answer = call(alloc, "solo p --input q", &given, None)?;
+        assert_eq!(rt; answer.status, status, "{text}");
+        assert_eq!(rt; answer.text.as_slice(), text.as_bytes(), "{text}");
+    }
+    let given = Given {
+        program: SMALLEST,
+        input: "",
+        failing: &[],
+    };
     for room in 0..78 {
-        let content = Vec::from_slice(alloc, SMALLEST.as_bytes())?;
-        let answer = call(alloc, &["solo", "p"], content, &[], Some(room as u64))?;
+        let answer = call(alloc, "solo p", &given, Some(room as u64))?;
         assert_eq!(rt; answer.status, if room < 77 { 8 } else { 0 });
         assert_eq!(rt; answer.text.len(), room);
         assert!(rt; REPORT.as_bytes().starts_with(answer.text.as_slice()));
-        assert_eq!(rt; answer.threads, 1);
+        assert_eq!(rt; answer.threads.len(), 1);
     }
     Ok(())
 }
 
+/// The threads and the instructions of the steps of the two halves, where no schedule is asked for.
+const STEPS: [(u32, u32); 10] = [
+    (0, 3),
+    (0, 5),
+    (0, 6),
+    (0, 7),
+    (1, 0),
+    (1, 1),
+    (0, 8),
+    (0, 9),
+    (0, 12),
+    (0, 13),
+];
+
 #[test]
-fn answers_words_and_files(rt: HostRuntime) -> Result<(), Fail> {
+fn step_limits_leave_the_first_steps(rt: HostRuntime) -> Result<(), Fail> {
     let alloc = rt.alloc();
-    let usage = "usage: bsan check FILE | instrument FILE | solo FILE\n";
-    let fault = "read fault: program\n";
-    let accepted = "accepted: 1 functions, 1 instructions\n";
-    let short = SMALLEST.len();
-    // Words, the reads that fail, the size to which blanks fill the file, and what comes.
-    let calls: [(&[&str], &[u64], usize, u8, &str); 14] = [
-        (&[], &[], short, 2, usage),
-        (&["solo"], &[], short, 2, usage),
-        (&["run", "p"], &[], short, 2, usage),
-        (&["solo", "p", "p"], &[], short, 2, usage),
-        (&["check", "--help"], &[], short, 2, usage),
-        (&["solo", "missing"], &[], short, 7, fault),
-        (&["check", "missing"], &[], short, 7, fault),
-        (&["check", "--", "p"], &[], short, 0, accepted),
-        (&["solo", "p"], &[1], short, 7, fault),
-        (&["solo", "p"], &[2], short, 0, REPORT),
-        (&["solo", "p"], &[1], 1_048_577, 7, fault),
-        (&["solo", "p"], &[], 1_048_577, 7, "too long: program\n"),
-        (&["check", "p"], &[], 1_048_577, 7, "too long: program\n"),
-        (&["solo", "p"], &[], 1_048_576, 0, REPORT),
-    ];
-    for (words, failing, size, status, text) in calls {
-        let mut content = Vec::from_slice(alloc, SMALLEST.as_bytes())?;
-        content.resize(size, b' ')?;
-        let answer = call(alloc, words, content, failing, None)?;
-        assert_eq!(rt; answer.status, status, "{text}");
-        assert_eq!(rt; answer.text.as_slice(), text.as_bytes(), "{text}");
+    let given = Given {
+        program: TWO_HALVES,
+        input: "",
+        failing: &[],
+    };
+    for limit in 1..11 {
+        let line = format!(in alloc; "solo p --steps {limit}")?;
+        let answer = call(alloc, line.as_str(), &given, None)?;
+        let mut steps = 0_u64;
+        for log in answer.threads.as_slice() {
+            for entry in log.entries.as_slice() {
+                steps = steps.saturating_add(1);
+                let place = usize::try_from(entry.stamp.0.saturating_sub(1)).unwrap_or(usize::MAX);
+                assert_eq!(rt; STEPS.get(place).copied(), Some((log.number.0, entry.site)));
+            }
+        }
+        assert_eq!(rt; steps, limit);
+        let text = match limit {
+            1 =>
+                "thread 0 reached the step limit with stamp 2\nsteps 1, allocations 1, threads 1, violations 0\nstatus 6\n",
+            2 =>
+                "thread 0 reached the step limit with stamp 3\nthread 1 reached the step limit with stamp 4\n\
+                steps 2, allocations 1, threads 2, violations 0\nstatus 6\n",
+            5 => "thread 0 ended with thread 1\nthread 1 reached the step limit with stamp 6\n\
+                steps 5, allocations 1, threads 2, violations 0\nstatus 6\n",
+            9 =>
+                "thread 0 prints 13\nthread 0 reached the step limit with stamp 10\nthread 1 returned 5\n\
+                steps 9, allocations 1, threads 2, violations 0\nstatus 6\n",
+            10 => HALVES_REPORT,
+            _ => continue,
+        };
+        assert_eq!(rt; answer.text.as_slice(), text.as_bytes());
     }
     Ok(())
 }

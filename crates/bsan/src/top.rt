@@ -1,31 +1,35 @@
 //! The top call.
-ghost use Rattle.std.specs.Prelude.{◌≡◌, ◌≢◌, map, string_bytes, MatchResult, IfOk, OnOk, IsErrOf};
+ghost use Rattle.std.specs.Prelude.{◌≡◌, ◌≢◌, ◌≤◌, ℕ, List, [], map, string_bytes, MatchResult, IfOk, OnOk, OnErr, IsErrOf};
+ghost use Rattle.std.specs.Option.{option_map, IsSomeAnd};
 ghost use Rattle.command_words.specs.Meaning.{job_meant};
+ghost use Rattle.core_model.specs.Kept.{Replayed};
+ghost use Rattle.core_model.specs.Running.{AreLimits};
 ghost use Rattle.ir_ast.specs.Programs.{IsProgram};
 ghost use Rattle.ir_text.specs.Bytes.{most_bytes};
-ghost use Rattle.ir_rules.specs.Rules.{IsAccepted};
 ghost use Rattle.history.specs.Records.{empty_record};
 ghost use Rattle.bsan.specs.Answer.{FindsIn, HasCause, Answers, IsBrokenRule};
-ghost use Rattle.bsan.specs.Runs.{no_hosts};
 ghost use Rattle.bsan.specs.Seen.{seen_files, seen_sink, Failed, WasTooLong, WasRead, Puts};
-ghost use Rattle.bsan.specs.Words.{file_in, IsSolo};
+ghost use Rattle.bsan.specs.Runs.{IsInput};
+ghost use Rattle.bsan.specs.Words.{file_in, HasLimits};
 ghost use Rattle.bsan.specs.Causes.{UsageCause, ReadCause, NotReadCause, NotVerifiedCause, PutCause, RunCause, MemoryCause};
 ghost use Rattle.bsan.specs.Causes.{LeavesNone, IsComplete};
 
-use crate::outcome::{Outcome, status_for, text_for};
-use bsan_ids::{ListOf, NoMemory};
-use command_words::{Job, WordsFault, read_job};
+use crate::outcome::{Outcome, Role, status_for, text_for};
+use bsan_ids::NoMemory;
+use command_words::{Job, Replay, WordsFault, read_job};
+use core_model::{main_machine, replay};
+use hosts::Hosts;
 use instrument::instrument;
-use ir_ast::{HostTable, Program};
+use ir_ast::Program;
 use ir_reader::{ReadFault, read};
-use ir_verify::{Verified, VerifyFault, verify};
+use ir_rules::Verified;
+use ir_verify::{VerifyFault, verify};
 use outside_io::{FileFault, Files, PutFault, Sink};
 use run_record::RunRecord;
-use small_run::{is_small, run_small};
 use std::alloc::Global;
 
-/// The most bytes of a program's text.
-const TEXT_LIMIT: u64 = 1_048_576;
+/// The most bytes of a program's text, and of an input.
+const FILE_LIMIT: u64 = 1_048_576;
 
 /// The status where the sink failed.
 const PUT_FAILED: u8 = 8;
@@ -44,51 +48,120 @@ fn put_text<K: Sink>(out: &mut K, text: &[u8], status: u8) -> u8
     }
 }
 
-/// Reads the program's file, which is to have at most 1,048,576 bytes.
-fn read_text<S: Files>(files: &mut S, name: &str, text: &mut Vec<u8>) -> Result<(), FileFault>
+/// Reads a file, which is to have at most 1,048,576 bytes.
+fn read_file<S: Files>(files: &mut S, name: &str, bytes: &mut Vec<u8>) -> Result<(), FileFault>
     ensures read { OnOk result (WasRead
         (seen_files (S.content files.old) (S.faults files.old) (S.faults files.new) (S.overlong files.old) (S.overlong files.new))
-        name.now most_bytes text.new.items) }
+        name.now most_bytes bytes.new.items) }
     ensures failed { IsErrOf result FileFault.Failed → Failed
         (seen_files (S.content files.old) (S.faults files.old) (S.faults files.new) (S.overlong files.old) (S.overlong files.new))
         name.now }
     ensures too_long { IsErrOf result FileFault.TooLong → WasTooLong
         (seen_files (S.content files.old) (S.faults files.old) (S.faults files.new) (S.overlong files.old) (S.overlong files.new))
         name.now most_bytes }
+    ensures content { (other : List ℕ) → S.content files.new other ≡ S.content files.old other }
+    ensures faults { (other : List ℕ) → S.faults files.old other ≤ S.faults files.new other }
+    ensures overlong { (other : List ℕ) (most : ℕ) → S.overlong files.old other most ≤ S.overlong files.new other most }
 {
-    files.read_file(name, TEXT_LIMIT, text)
+    files.read_file(name, FILE_LIMIT, bytes)
 }
 
-/// Runs an accepted program, where it is small.
-fn solo(
+/// Reads the input of a run, which is empty where no file is named.
+fn read_input<S: Files>(
+    files: &mut S,
+    name: Option<&str>,
+    input: &mut Vec<u8>,
+) -> Result<(), FileFault>
+    requires { input.old.items ≡ [] }
+    ensures read { OnOk result (IsInput
+        (seen_files (S.content files.old) (S.faults files.old) (S.faults files.new) (S.overlong files.old) (S.overlong files.new))
+        (option_map (λ name. name.now) name.entry) input.new.items) }
+    ensures failed { IsErrOf result FileFault.Failed → IsSomeAnd (option_map (λ name. name.now) name.entry) (λ file. Failed
+        (seen_files (S.content files.old) (S.faults files.old) (S.faults files.new) (S.overlong files.old) (S.overlong files.new))
+        file) }
+    ensures too_long { IsErrOf result FileFault.TooLong → IsSomeAnd (option_map (λ name. name.now) name.entry) (λ file. WasTooLong
+        (seen_files (S.content files.old) (S.faults files.old) (S.faults files.new) (S.overlong files.old) (S.overlong files.new))
+        file most_bytes) }
+{
+    match name {
+        Some(name) => read_file(files, name, input),
+        None => Ok(()),
+    }
+}
+
+/// Replays a verified program with its input.
+fn run(
     alloc: Global,
-    job: Job<'_>,
-    program: &Program,
+    asked: &Replay<'_>,
+    verified: &Verified,
+    input: &[u8],
+    hosts: &Hosts,
+    kept: &mut RunRecord,
+) -> Result<(), NoMemory>
+    requires hosts { verified.now.hosts ≡ hosts.now.table }
+    requires limits { AreLimits asked.now.settings.limits }
+    requires empty { kept.old ≡ empty_record }
+    ensures ok { OnOk result (Replayed verified.now.program input.now hosts.now.table asked.now.settings.limits
+        (map (λ pick. pick.0) asked.now.schedule) kept.new) }
+    ensures err { OnErr result (kept.new ≡ empty_record) }
+{
+    let target = instrument(alloc, verified)?;
+    let (main, machine) = main_machine(alloc, verified, &target, input)?;
+    let schedule = asked.schedule.as_slice();
+    replay(
+        alloc,
+        main,
+        machine,
+        schedule,
+        &asked.settings.limits,
+        hosts,
+        kept,
+    )
+}
+
+/// Reads the input of a run on one native thread, and makes it.
+fn serve_replay<S: Files>(
+    alloc: Global,
+    asked: &Replay<'_>,
+    verified: &Verified,
+    files: &mut S,
+    hosts: &Hosts,
     kept: &mut RunRecord,
 ) -> Result<Outcome, NoMemory>
-    requires solo { IsSolo (job_meant job) }
-    requires accepted { IsAccepted program.now no_hosts }
+    requires hosts { verified.now.hosts ≡ hosts.now.table }
+    requires limits { AreLimits asked.now.settings.limits }
     requires empty { kept.old ≡ empty_record }
-    ensures { MatchResult result (λ found. FindsIn kept.new found (job_meant job.entry) program.now)
+    ensures { MatchResult result (λ found. FindsIn
+        (seen_files (S.content files.old) (S.faults files.old) (S.faults files.new) (S.overlong files.old) (S.overlong files.new))
+        hosts.now.table kept.new found (job_meant (Job.Replay asked.now)) verified.now.program)
         (λ _. kept.new ≡ empty_record) }
 {
-    if !is_small(program) {
-        return Ok(Outcome::NotBuilt);
+    let mut input = Vec::new(alloc);
+    match read_input(files, asked.settings.input, &mut input) {
+        Ok(()) => {}
+        Err(FileFault::Failed) => return Ok(Outcome::FileFault { role: Role::Input }),
+        Err(FileFault::TooLong) => return Ok(Outcome::TooLong { role: Role::Input }),
+        Err(FileFault::NoMemory) => return Err(NoMemory),
     }
-    run_small(alloc, program, kept)?;
+    run(alloc, asked, verified, input.as_slice(), hosts, kept)?;
     Ok(Outcome::Ran)
 }
 
 /// Serves a job on a verified program.
-fn serve(
+fn serve<S: Files>(
     alloc: Global,
-    job: Job<'_>,
+    job: &Job<'_>,
     verified: &Verified,
+    files: &mut S,
+    hosts: &Hosts,
     kept: &mut RunRecord,
 ) -> Result<Outcome, NoMemory>
-    requires hosts { verified.now.hosts ≡ no_hosts }
+    requires hosts { verified.now.hosts ≡ hosts.now.table }
+    requires limits { HasLimits (job_meant job.now) }
     requires empty { kept.old ≡ empty_record }
-    ensures { MatchResult result (λ found. FindsIn kept.new found (job_meant job.entry) verified.now.program)
+    ensures { MatchResult result (λ found. FindsIn
+        (seen_files (S.content files.old) (S.faults files.old) (S.faults files.new) (S.overlong files.old) (S.overlong files.new))
+        hosts.now.table kept.new found (job_meant job.now) verified.now.program)
         (λ _. kept.new ≡ empty_record) }
 {
     match job {
@@ -99,27 +172,29 @@ fn serve(
         Job::Instrument { .. } => Ok(Outcome::Instrumented {
             target: instrument(alloc, verified)?,
         }),
-        Job::Solo { .. } => solo(alloc, job, verified.program(), kept),
+        Job::Replay(asked) => serve_replay(alloc, asked, verified, files, hosts, kept),
     }
 }
 
 /// Verifies the program, and serves a job on it.
-fn judge(
+fn judge<S: Files>(
     alloc: Global,
-    job: Job<'_>,
+    job: &Job<'_>,
     program: Program,
+    files: &mut S,
+    hosts: &Hosts,
     kept: &mut RunRecord,
 ) -> Result<Outcome, NoMemory>
     requires shaped { IsProgram program }
+    requires limits { HasLimits (job_meant job.now) }
     requires empty { kept.old ≡ empty_record }
-    ensures { MatchResult result (λ found. FindsIn kept.new found (job_meant job.entry) program)
+    ensures { MatchResult result (λ found. FindsIn
+        (seen_files (S.content files.old) (S.faults files.old) (S.faults files.new) (S.overlong files.old) (S.overlong files.new))
+        hosts.now.table kept.new found (job_meant job.now) program)
         (λ _. kept.new ≡ empty_record) }
 {
-    let hosts = HostTable {
-        entries: ListOf::new(alloc),
-    };
-    match verify(alloc, program, &hosts) {
-        Ok(verified) => serve(alloc, job, &verified, kept),
+    match verify(alloc, program, hosts.table()) {
+        Ok(verified) => serve(alloc, job, &verified, files, hosts, kept),
         Err(fault) => unverified(fault),
     }
 }
@@ -146,25 +221,27 @@ fn unread(fault: ReadFault) -> Result<Outcome, NoMemory>
 }
 
 /// The program's file.
-fn file_of(job: Job<'_>) -> &str
-    ensures { result.now ≡ file_in (job_meant job.entry) }
+fn file_of<'w>(job: &Job<'w>) -> &'w str
+    ensures { result.now ≡ file_in (job_meant job.now) }
 {
     match job {
-        Job::Check { file } | Job::Instrument { file } | Job::Solo { file } => file,
+        Job::Check { file } | Job::Instrument { file } => file,
+        Job::Replay(asked) => asked.file,
     }
 }
 
-/// Does the work of a call, up to its text: the words, the file, the program and the job.
+/// Does the work of a call, up to its text: the words, the files, the program and the job.
 fn find<S: Files>(
     alloc: Global,
     words: &[String],
     files: &mut S,
+    hosts: &Hosts,
     kept: &mut RunRecord,
 ) -> Result<Outcome, NoMemory>
     ensures { MatchResult result
         (HasCause
         (seen_files (S.content files.old) (S.faults files.old) (S.faults files.new) (S.overlong files.old) (S.overlong files.new))
-        (map string_bytes words.now) kept.new)
+        hosts.now.table (map string_bytes words.now) kept.new)
         (λ _. kept.new ≡ empty_record) }
 {
     kept.clear();
@@ -174,14 +251,18 @@ fn find<S: Files>(
         Err(WordsFault::NoMemory) => return Err(NoMemory),
     };
     let mut text = Vec::new(alloc);
-    match read_text(files, file_of(job), &mut text) {
+    match read_file(files, file_of(&job), &mut text) {
         Ok(()) => {}
-        Err(FileFault::Failed) => return Ok(Outcome::FileFault),
-        Err(FileFault::TooLong) => return Ok(Outcome::TooLong),
+        Err(FileFault::Failed) => return Ok(Outcome::FileFault {
+            role: Role::Program,
+        }),
+        Err(FileFault::TooLong) => return Ok(Outcome::TooLong {
+            role: Role::Program,
+        }),
         Err(FileFault::NoMemory) => return Err(NoMemory),
     }
     match read(alloc, text.as_slice()) {
-        Ok(program) => judge(alloc, job, program, kept),
+        Ok(program) => judge(alloc, &job, program, files, hosts, kept),
         Err(fault) => unread(fault),
     }
 }
@@ -192,14 +273,16 @@ fn answer<S: Files, K: Sink>(
     words: &[String],
     files: &mut S,
     out: &mut K,
+    hosts: &Hosts,
     kept: &mut RunRecord,
 ) -> u8
     ensures { Answers
         (seen_files (S.content files.old) (S.faults files.old) (S.faults files.new) (S.overlong files.old) (S.overlong files.new))
+        hosts.now.table
         (seen_sink (K.taken out.old) (K.taken out.new) (K.faults out.old) (K.faults out.new))
         (map string_bytes words.now) kept.new result }
 {
-    let found = match find(alloc, words, files, kept) {
+    let found = match find(alloc, words, files, hosts, kept) {
         Ok(found) => found,
         Err(NoMemory) => return NO_MEMORY,
     };
@@ -210,72 +293,77 @@ fn answer<S: Files, K: Sink>(
 }
 
 /// Serves the commands `check FILE`, which reads and verifies the program of the file and puts how many
-/// functions and instructions it has, `instrument FILE`, which puts the text of its target code instead, and
-/// `solo FILE`, which runs it on one thread and puts the report of that run.
+/// functions and instructions it has, `instrument FILE`, which puts the text of its target code instead,
+/// `solo FILE`, which runs it on one native thread and puts the report of that run, and `replay FILE SCHEDULE`,
+/// which first picks the threads of a schedule. `solo` and `replay` take `--input FILE`, `--steps N`, `--turns N` and
+/// `--allocs N`. The program may call the functions of `hosts`.
 ///
-/// First of all it empties `kept`; a run fills it. It reads the file, up to 1,048,576 bytes, and puts
+/// First of all it empties `kept`; a run fills it. It does its work in this order: the words, the program's file,
+/// reading, verifying, the input's file, the run. Each file may have up to 1,048,576 bytes. Then it puts
 /// the whole text in one piece. The answer is the status:
 ///
 /// | status | when | text |
 /// |---|---|---|
 /// | 0 | the program ran clean, or is accepted | the report, or `accepted: F functions, I instructions`, or the target code |
-/// | 1 | the run had a violation | the report |
-/// | 2 | the words are no command's, as `clap` reads them | `usage: bsan check FILE \| instrument FILE \| solo FILE` |
-/// | 3 | the text is refused, or it is to be run and its program isn't small | `not read: FAULT at PLACE`, or `not read: NotBuilt` |
+/// | 1 | the run had a violation, and no end of a higher rank | the report |
+/// | 2 | the words are no command's, as `clap` reads them, or a value is out of its form or range | `usage:` with the commands, and `options of` with the options |
+/// | 3 | the text is refused | `not read: FAULT at PLACE` |
 /// | 4 | a rule is broken in the program | `not verified: RULE at PLACE` |
-/// | 7 | a read of the file failed, or it is too long | `read fault: program` or `too long: program` |
+/// | 5 | a thread trapped, and none reached a limit or found no memory | the report |
+/// | 6 | a thread reached the limit of steps or of turns, and none found no memory | the report |
+/// | 7 | a read of a file failed, or the file is too long | `read fault: program`, `too long: program`, or the same with `input` |
 /// | 8 | the sink failed | a prefix of the text that was to be put |
-/// | 9 | want of memory | nothing, or the report of a run in which a thread found no memory |
+/// | 9 | out of memory | nothing, or the report of a run in which a thread found no memory |
 ///
-/// This contract is on the way to one about every program of the language:
+/// This contract is on the way to one about native threads as well:
 ///
 /// > For every accepted program and input, and however its threads interleave, each allocation's accesses, retags, protector ends and free form one history, ordered by stamps, that holds each thread's calls in program order and once; every reply and verdict is eager Tree Borrows' at that point; the printed reports are exactly the first violations; and the stamped steps merged are a run of the uninstrumented program.
 ///
-/// Of this sentence it claims what concerns one thread of a small program: a main of one block, without
-/// input, whose instructions are constants, allocations on the stack, loads, stores and reborrows. After a
-/// run `kept` is right for the program that was read. Its one log is a run of main. Each allocation's
-/// log is a history in which every reply and verdict is eager Tree Borrows'. The log's entries of that
-/// allocation are this history, and by their stamps all entries are one run. The text put is the report of
-/// `kept`, whose violation lines are the first violations. That the run without the sanitizer does the
-/// same is not claimed yet. A larger program is refused after it was verified.
+/// It claims this sentence for one native thread, under every schedule. After a run `kept` is that of the replay of
+/// the program that was read, with the input that was read, by the schedule and within the limits of the words, and it
+/// is a right record, its erasure included. The text put is the report of `kept`, whose violation lines are the
+/// first violations.
 pub fn bsan_alone<S: Files, K: Sink>(
     alloc: Global,
     words: &[String],
     files: &mut S,
     out: &mut K,
+    hosts: &Hosts,
     kept: &mut RunRecord,
 ) -> u8
     // Something was found for its cause, with this record, and its text was put for this answer.
     ensures answer { Answers
         (seen_files (S.content files.old) (S.faults files.old) (S.faults files.new) (S.overlong files.old) (S.overlong files.new))
+        hosts.now.table
         (seen_sink (K.taken out.old) (K.taken out.new) (K.faults out.old) (K.faults out.new))
         (map string_bytes words.now) kept.new result }
 
     // 0: only after a run without violations, or where a program was accepted or its target code made.
-    // 1: only after a run with violations. The whole text was put.
+    // 1, 5, 6: only after a run with violations, with a trap, with a limit. The whole text was put.
     ensures run { RunCause
         (seen_files (S.content files.old) (S.faults files.old) (S.faults files.new) (S.overlong files.old) (S.overlong files.new))
+        hosts.now.table
         (seen_sink (K.taken out.old) (K.taken out.new) (K.faults out.old) (K.faults out.new))
         (map string_bytes words.now) kept.new result }
 
     // 2: exactly where the words ask for nothing.
     ensures usage { UsageCause (map string_bytes words.now) result }
 
-    // 3: exactly where the text is refused, or the program that is to be run isn't small, unless the
-    // file was not read.
+    // 3: exactly where the text is refused, unless the program's file was not read.
     ensures not_read { NotReadCause
         (seen_files (S.content files.old) (S.faults files.old) (S.faults files.new) (S.overlong files.old) (S.overlong files.new))
         (map string_bytes words.now) result }
 
-    // 4: exactly where a rule is broken in the program, unless the file was not read.
+    // 4: exactly where a rule is broken in the program, unless its file was not read.
     ensures not_verified { NotVerifiedCause
         (seen_files (S.content files.old) (S.faults files.old) (S.faults files.new) (S.overlong files.old) (S.overlong files.new))
-        (map string_bytes words.now) result }
+        hosts.now.table (map string_bytes words.now) result }
 
-    // 7: only where a read of the program's file failed, or the file was too long.
+    // 7: only where a read of the program's file failed or it was too long, or, where the program is accepted, the
+    // same of the input's file.
     ensures read_fault { ReadCause
         (seen_files (S.content files.old) (S.faults files.old) (S.faults files.new) (S.overlong files.old) (S.overlong files.new))
-        (map string_bytes words.now) result }
+        hosts.now.table (map string_bytes words.now) result }
 
     // 8: only where the sink failed.
     ensures put_fault { PutCause (seen_sink (K.taken out.old) (K.taken out.new) (K.faults out.old) (K.faults out.new)) result }
@@ -283,6 +371,7 @@ pub fn bsan_alone<S: Files, K: Sink>(
     // 9: nothing was put, or the report of a run in which a thread found no memory.
     ensures memory { MemoryCause
         (seen_files (S.content files.old) (S.faults files.old) (S.faults files.new) (S.overlong files.old) (S.overlong files.new))
+        hosts.now.table
         (seen_sink (K.taken out.old) (K.taken out.new) (K.faults out.old) (K.faults out.new))
         (map string_bytes words.now) kept.new result }
 
@@ -292,8 +381,9 @@ pub fn bsan_alone<S: Files, K: Sink>(
     // Where all is well outside, only want of memory can come between.
     ensures complete { IsComplete
         (seen_files (S.content files.old) (S.faults files.old) (S.faults files.new) (S.overlong files.old) (S.overlong files.new))
+        hosts.now.table
         (seen_sink (K.taken out.old) (K.taken out.new) (K.faults out.old) (K.faults out.new))
         (map string_bytes words.now) kept.new result }
 {
-    answer(alloc, words, files, out, kept)
+    answer(alloc, words, files, out, hosts, kept)
 }

@@ -3,9 +3,11 @@
 
 ghost use Rattle.std.specs.Prelude.{◌≡◌, [], drop, IfOk, OnErr};
 ghost use Rattle.std.specs.Vec.Iter.{into_iter_items};
+ghost use Rattle.hosts.specs.Standard.{standard_table};
 
 use bsan::bsan_alone;
 use bsan_ids::NoMemory;
+use hosts::{Hosts, standard_answer, standard_table};
 use outside_io::{RealFiles, RealSink};
 use run_record::RunRecord;
 use std::alloc::Global;
@@ -37,8 +39,20 @@ fn words_of(alloc: Global, all: io::Result<Args>) -> Result<Vec<String>, NoMemor
     }
 }
 
+// The host functions of the program.
+fn standard_hosts(alloc: Global) -> Result<Hosts, NoMemory>
+    ensures { IfOk result (λ hosts. hosts.table ≡ standard_table) }
+{
+    let table = standard_table(alloc)?;
+    let answerer = Box::new(alloc, standard_answer)?;
+    Ok(Hosts::new(table, answerer))
+}
+
 fn main(rt: HostRuntime) -> ExitCode {
     let Ok(words) = words_of(rt.alloc(), env::args(&rt)) else {
+        return ExitCode::from(NO_MEMORY);
+    };
+    let Ok(hosts) = standard_hosts(rt.alloc()) else {
         return ExitCode::from(NO_MEMORY);
     };
     let mut files = RealFiles::new(&rt);
@@ -49,6 +63,7 @@ fn main(rt: HostRuntime) -> ExitCode {
         words.as_slice(),
         &mut files,
         &mut out,
+        &hosts,
         &mut kept,
     );
     ExitCode::from(status)

@@ -1,2 +1,5 @@
 pub mod CommandFacts
 pub mod JobLemmas
+pub mod NumberLemmas
+pub mod Ranges
+pub mod Required

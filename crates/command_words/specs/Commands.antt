@@ -1,20 +1,37 @@
 -- The commands, as clap reads their words.
-use Rattle.std.specs.Prelude.{◌≡◌, List, [], true, codes}
+use Rattle.std.specs.Prelude.{◌≡◌, true, List, [], Some, codes}
 use Rattle.clap.specs.Words.{App, Rule, Text, new_app, new_rule, with_rule, is_simple}
 use Rattle.clap.specs.Simple.{on_top}
 use Rattle.clap.specs.Faults.{fault_of, is_simple_and_free}
+use Rattle.clap.specs.declared.builder.action.ArgAction.TheVariants.{Set}
 
 -- a word that has to be there
 abbrev pub needed : Text → Rule
-needed id = record (new_rule id) { required = true }
+needed id = record (new_rule id) { required = true; action = Some Set }
+
+-- an option with a value
+abbrev pub optional : Text → Rule
+optional id = record (new_rule id) { long = Some id }
 
 -- a command without a flag for help
 abbrev pub plain : Text → App
 plain name = on_top (λ top. record top { disable_help_flag = true }) (new_app name)
 
+abbrev pub with_options : App → App
+with_options app =
+    with_rule (with_rule (with_rule (with_rule app (optional (codes "input"))) (optional (codes "steps"))) (optional (codes "turns"))) (optional (codes "allocs"))
+
 -- the command NAME FILE
 unfoldable pub file_app : Text → App
 file_app name = with_rule (plain name) (needed (codes "FILE"))
+
+-- the command `solo FILE`, with options
+unfoldable pub solo_app : App
+solo_app = with_options (file_app (codes "solo"))
+
+-- the command `replay FILE SCHEDULE`, with options
+unfoldable pub replay_app : App
+replay_app = with_options (with_rule (file_app (codes "replay")) (needed (codes "SCHEDULE")))
 
 -- clap takes the words of the command, its name among them
 abbrev pub Takes : App → List Text → Type 0

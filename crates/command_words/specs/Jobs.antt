@@ -1,34 +1,74 @@
 -- What a command line asks for.
-use Rattle.std.specs.Prelude.{List, [], ◌∷◌, Option, None, if◌then◌else◌, codes}
-use Rattle.std.specs.Option.{option_map}
+use Rattle.std.specs.Prelude.{ℕ, List, [], ◌∷◌, Option, Some, None, if◌then◌else◌, codes}
+use Rattle.std.specs.Option.{option_map, option_map_or, option_and_then}
 use Rattle.std.specs.Str.{bytes_eq}
-use Rattle.clap.specs.Words.{App, Text, Kinds, matches_of, first_of}
+use Rattle.clap.specs.Words.{App, Row, Text, Kinds, matches_of, first_of}
 use Rattle.clap.specs.Faults.{fault_of}
-use Rattle.command_words.specs.Commands.{file_app}
+use Rattle.bsan_ids.specs.declared.numbers.Limits.{Limits}
+use Rattle.command_words.specs.Commands.{file_app, solo_app, replay_app}
+use Rattle.command_words.specs.Numbers.{number_in}
+use Rattle.command_words.specs.Schedules.{schedule_of}
+
+-- what the options of a run say: a file with its input, where one is named, and the limits
+pub record Settings : Type 0 where
+  pub input : Option Text
+  pub limits : Limits
 
 pub data Job : Type 0 where
   Check : (file : Text) → Job
   Instrument : (file : Text) → Job
-  Solo : (file : Text) → Job
+  Replay : (file : Text) (schedule : List ℕ) (settings : Settings) → Job
+
+-- the limit of an option, from 1 on, or what it is where the option isn't there
+abbrev pub limit_of : Text → ℕ → ℕ → List Row → Option ℕ
+limit_of id most default rows = option_map_or (number_in 10 1 most) (first_of id rows) (Some default)
+
+abbrev pub limits_of : List Row → Option Limits
+limits_of rows =
+    option_and_then (λ steps. option_and_then (λ turns. option_map (λ allocs. record {
+      steps = steps;
+      turns = turns;
+      allocs = allocs;
+    }) (limit_of (codes "allocs") 65536 65536 rows))
+    (limit_of (codes "turns") 100000000 10000000 rows)) (limit_of (codes "steps") 4000000 1000000 rows)
+
+abbrev pub settings_of : List Row → Option Settings
+settings_of rows = option_map (λ limits. record { input = first_of (codes "input") rows; limits = limits }) (limits_of rows)
+
+abbrev pub file_of : List Row → Option Text
+file_of rows = first_of (codes "FILE") rows
+
+abbrev pub replay_of : Option (List ℕ) → List Row → Option Job
+replay_of schedule rows =
+    option_and_then (λ file. option_and_then (λ numbers. option_map (Replay file numbers) (settings_of rows)) schedule) (file_of rows)
 
 -- nothing, where clap finds a fault
-abbrev pub unless_fault : Kinds → Option Text → Option Text
-unless_fault [] word = word
-unless_fault (kind ∷ kinds) word = None
+abbrev pub unless_fault : {A : Type 0} → Kinds → Option A → Option A
+unless_fault [] answer = answer
+unless_fault (kind ∷ kinds) answer = None
 
--- the word FILE of a command, where clap takes the words
-unfoldable pub file_by : App → List Text → Option Text
-file_by app words = unless_fault (fault_of app words) (first_of (codes "FILE") (matches_of app words))
+-- what the matches of a command say, where clap takes its words
+unfoldable pub said_by : {A : Type 0} → App → (List Row → Option A) → List Text → Option A
+said_by app says words = unless_fault (fault_of app words) (says (matches_of app words))
 
--- what the command NAME FILE asks for
-abbrev pub job_by : Text → (Text → Job) → List Text → Option Job
-job_by name job words = option_map job (file_by (file_app name) words)
+-- the word FILE of the command NAME FILE
+abbrev pub file_by : Text → List Text → Option Text
+file_by name words = said_by (file_app name) file_of words
+
+-- what `solo` asks for: a replay of an empty schedule
+abbrev pub solo_by : List Text → Option Job
+solo_by words = said_by solo_app (replay_of (Some [])) words
+
+abbrev pub replay_by : List Text → Option Job
+replay_by words =
+    said_by replay_app (λ rows. replay_of (option_and_then schedule_of (first_of (codes "SCHEDULE") rows)) rows) words
 
 -- what the words ask for: the first is a command's name, and clap takes them as this command's
 unfoldable pub job_of : List Text → Option Job
 job_of [] = None
 job_of (name ∷ rest) =
-    if bytes_eq name (codes "check") then job_by (codes "check") Check (name ∷ rest)
-    else (if bytes_eq name (codes "instrument") then job_by (codes "instrument") Instrument (name ∷ rest)
-    else (if bytes_eq name (codes "solo") then job_by (codes "solo") Solo (name ∷ rest)
-    else None))
+    if bytes_eq name (codes "check") then option_map Check (file_by (codes "check") (name ∷ rest))
+    else (if bytes_eq name (codes "instrument") then option_map Instrument (file_by (codes "instrument") (name ∷ rest))
+    else (if bytes_eq name (codes "solo") then solo_by (name ∷ rest)
+    else (if bytes_eq name (codes "replay") then replay_by (name ∷ rest)
+    else None)))

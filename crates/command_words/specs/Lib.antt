@@ -1,3 +1,5 @@
 pub mod Commands
+pub mod Numbers
+pub mod Schedules
 pub mod Jobs
 pub mod Meaning

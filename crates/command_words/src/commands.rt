@@ -1,11 +1,11 @@
 //! The commands, as `clap` reads their words.
-ghost use Rattle.std.specs.Prelude.{◌≡◌, map, string_bytes, false, IfOk, OnOk, IsErrOf};
-ghost use Rattle.clap.specs.Words.{app_of, found_of, matches_of, rows_of, rule_of, with_rule};
+ghost use Rattle.std.specs.Prelude.{◌≡◌, map, string_bytes, false, codes, IfOk, OnOk, IsErrOf};
+ghost use Rattle.clap.specs.Words.{app_of, found_of, matches_of, rows_of, rule_of, with_rule, IsParsedFrom};
 ghost use Rattle.command_words.specs.Commands as commands;
 
 use crate::WordsFault;
 use clap::error::ErrorKind;
-use clap::{Arg, ArgMatches, Command};
+use clap::{Arg, ArgAction, ArgMatches, Command};
 use std::alloc::{AllocError, Global};
 
 /// A word that has to be there.
@@ -13,7 +13,15 @@ fn needed<'a>(alloc: Global, id: &'a str) -> Arg<'a>
     ensures rule { rule_of result ≡ commands.needed id.entry.now }
     ensures local { result.global ≡ false }
 {
-    Arg::new(alloc, id).required(true)
+    Arg::new(alloc, id).required(true).action(ArgAction::Set)
+}
+
+/// An option with a value.
+fn optional<'a>(alloc: Global, id: &'a str) -> Arg<'a>
+    ensures rule { rule_of result ≡ commands.optional id.entry.now }
+    ensures local { result.global ≡ false }
+{
+    Arg::new(alloc, id).long(id)
 }
 
 fn plain<'a>(alloc: Global, name: &'a str) -> Command<'a>
@@ -22,12 +30,39 @@ fn plain<'a>(alloc: Global, name: &'a str) -> Command<'a>
     Command::new(alloc, name).disable_help_flag(true)
 }
 
+/// The command with the options of a run.
+fn with_options<'a>(alloc: Global, command: Command<'a>) -> Result<Command<'a>, AllocError>
+    ensures { IfOk result (λ with. app_of with ≡ commands.with_options (app_of command.entry)) }
+{
+    let with = command
+        .arg(optional(alloc, "input"))?
+        .arg(optional(alloc, "steps"))?
+        .arg(optional(alloc, "turns"))?
+        .arg(optional(alloc, "allocs"))?;
+    Ok(with)
+}
+
 /// The command `NAME FILE`.
 pub(crate) fn file_command<'a>(alloc: Global, name: &'a str) -> Result<Command<'a>, AllocError>
     ensures { IfOk result (λ command. app_of command ≡ commands.file_app name.entry.now) }
 {
     let command = plain(alloc, name).arg(needed(alloc, "FILE"))?;
     Ok(command)
+}
+
+/// The command `solo FILE`.
+pub(crate) fn solo_command<'a>(alloc: Global) -> Result<Command<'a>, AllocError>
+    ensures { IfOk result (λ command. app_of command ≡ commands.solo_app) }
+{
+    with_options(alloc, file_command(alloc, "solo")?)
+}
+
+/// The command `replay FILE SCHEDULE`.
+pub(crate) fn replay_command<'a>(alloc: Global) -> Result<Command<'a>, AllocError>
+    ensures { IfOk result (λ command. app_of command ≡ commands.replay_app) }
+{
+    let command = file_command(alloc, "replay")?.arg(needed(alloc, "SCHEDULE"))?;
+    with_options(alloc, command)
 }
 
 /// What clap makes of the words of a simple command, its name among them.
@@ -42,6 +77,7 @@ pub(crate) fn matched<'a>(
         → ¬ commands.Takes (app_of command.entry) (map string_bytes words.entry.now) }
     ensures rows { IfOk result (λ matches. rows_of (found_of matches)
         ≡ matches_of (app_of command.entry) (map string_bytes words.entry.now)) }
+    ensures parsed { IfOk result (λ matches. IsParsedFrom command.entry matches) }
 {
     match command.try_get_matches_from(words) {
         Ok(matches) => Ok(matches),

@@ -1,36 +1,133 @@
 //! What the words ask for.
-ghost use Rattle.std.specs.Prelude.{◌≡◌, map, string_bytes, Some, None, IfOk, IsErrOf};
+ghost use Rattle.std.specs.Prelude.{◌≡◌, ◌≤◌, true, is_some, map, string_bytes, codes, Some, None, IfOk, IfSome, IsErrOf};
+ghost use Rattle.std.specs.Option.{option_map};
+ghost use Rattle.clap.specs.Words.{first_of, found_of, rows_of};
 ghost use Rattle.command_words.specs.Commands.{file_app};
 ghost use Rattle.command_words.specs.Jobs as jobs;
-ghost use Rattle.command_words.specs.Meaning.{job_meant};
+ghost use Rattle.command_words.specs.Meaning.{job_meant, settings_meant};
 
 use crate::WordsFault;
-use crate::commands::{file_command, matched};
+use crate::commands::{file_command, matched, replay_command, solo_command};
+use crate::numbers::{number_in, schedule};
+use bsan_ids::{Limits, ListOf, ThreadNo};
+use clap::ArgMatches;
 use std::alloc::Global;
 
-/// What a command line asks for.
+/// What the options of a run say.
 #[derive(Clone, Copy)]
+pub struct Settings<'w> {
+    /// The file with the input, where one is named.
+    pub input: Option<&'w str>,
+    /// The limits of the run.
+    pub limits: Limits,
+}
+
+/// A run on one native thread.
+#[derive(Drop)]
+pub struct Replay<'w> {
+    /// The file with the program.
+    pub file: &'w str,
+    /// The threads to be picked first, in this order. The command `solo` asks for none.
+    pub schedule: ListOf<ThreadNo>,
+    /// What the options say.
+    pub settings: Settings<'w>,
+}
+
+/// What a command line asks for.
+#[derive(Drop)]
 pub enum Job<'w> {
     /// Read and verify the program in this file.
     Check { file: &'w str },
     /// Make the target code of the program in this file.
     Instrument { file: &'w str },
-    /// Run the program in this file on one thread.
-    Solo { file: &'w str },
+    /// Run a program on one native thread.
+    Replay(Replay<'w>),
+}
+
+/// The limit of an option, from 1 to the most, or its default where the option isn't there.
+fn limit(matches: &ArgMatches<'_>, id: &str, most: u64, default: u64) -> Option<u64>
+    requires least { 1 ≤ default }
+    requires most { default ≤ most }
+    ensures limit { result ≡ jobs.limit_of id.now most default (rows_of (found_of matches.now)) }
+    ensures within { IfSome result (λ limit. (1 ≤ limit) × (limit ≤ most)) }
+{
+    match matches.get_str(id) {
+        Some(text) => number_in(10, 1, most, text),
+        None => Some(default),
+    }
+}
+
+/// The limits of the options.
+fn limits(matches: &ArgMatches<'_>) -> Option<Limits>
+    ensures limits { result ≡ jobs.limits_of (rows_of (found_of matches.now)) }
+{
+    let steps = limit(matches, "steps", 4_000_000, 1_000_000)?;
+    let turns = limit(matches, "turns", 100_000_000, 10_000_000)?;
+    let allocs = limit(matches, "allocs", 65_536, 65_536)?;
+    Some(Limits {
+        steps,
+        turns,
+        allocs: allocs as u32,
+    })
+}
+
+/// What the options say.
+fn options<'w>(matches: &ArgMatches<'w>) -> Option<Settings<'w>>
+    ensures { option_map settings_meant result ≡ jobs.settings_of (rows_of (found_of matches.now)) }
+{
+    let limits = limits(matches)?;
+    Some(Settings {
+        input: matches.get_str("input"),
+        limits,
+    })
 }
 
 /// The word FILE of the command `NAME FILE`, whose words these are.
 fn read_file<'w>(alloc: Global, name: &'w str, words: &'w [String]) -> Result<&'w str, WordsFault>
-    ensures file { IfOk result (λ file. jobs.file_by (file_app name.now)
-        (map string_bytes words.entry.now) ≡ Some file.now) }
+    ensures file { IfOk result (λ file. jobs.file_by name.now (map string_bytes words.entry.now) ≡ Some file.now) }
     ensures refused { IsErrOf result WordsFault.Refused
-        → jobs.file_by (file_app name.now) (map string_bytes words.entry.now) ≡ None }
+        → jobs.file_by name.now (map string_bytes words.entry.now) ≡ None }
 {
-    let command = file_command(alloc, name)?;
-    match matched(command, words) {
-        Ok(matches) => matches.get_str("FILE").ok_or(WordsFault::Refused),
-        Err(fault) => Err(fault),
+    let matches = matched(file_command(alloc, name)?, words)?;
+    Ok(matches.get_str("FILE").unwrap())
+}
+
+/// A run of the program in the word FILE, by this schedule and with what the options say.
+fn replayed<'w>(matches: &ArgMatches<'w>, schedule: ListOf<ThreadNo>) -> Result<Job<'w>, WordsFault>
+    requires { is_some (first_of (codes "FILE") (rows_of (found_of matches.now))) ≡ true }
+    ensures job { IfOk result (λ job.
+        jobs.replay_of (Some (map (λ pick. pick.0) schedule)) (rows_of (found_of matches.now)) ≡ Some (job_meant job)) }
+    ensures refused { IsErrOf result WordsFault.Refused
+        → jobs.replay_of (Some (map (λ pick. pick.0) schedule)) (rows_of (found_of matches.now)) ≡ None }
+{
+    let file = matches.get_str("FILE").unwrap();
+    match options(matches) {
+        Some(settings) => Ok(Job::Replay(Replay {
+            file,
+            schedule,
+            settings,
+        })),
+        None => Err(WordsFault::Refused),
     }
+}
+
+/// What the words of the command `solo` ask for.
+fn read_solo<'w>(alloc: Global, words: &'w [String]) -> Result<Job<'w>, WordsFault>
+    ensures job { IfOk result (λ job. jobs.solo_by (map string_bytes words.entry.now) ≡ Some (job_meant job)) }
+    ensures refused { IsErrOf result WordsFault.Refused → jobs.solo_by (map string_bytes words.entry.now) ≡ None }
+{
+    let matches = matched(solo_command(alloc)?, words)?;
+    replayed(&matches, ListOf::new(alloc))
+}
+
+/// What the words of the command `replay` ask for.
+fn read_replay<'w>(alloc: Global, words: &'w [String]) -> Result<Job<'w>, WordsFault>
+    ensures job { IfOk result (λ job. jobs.replay_by (map string_bytes words.entry.now) ≡ Some (job_meant job)) }
+    ensures refused { IsErrOf result WordsFault.Refused → jobs.replay_by (map string_bytes words.entry.now) ≡ None }
+{
+    let matches = matched(replay_command(alloc)?, words)?;
+    let text = matches.get_str("SCHEDULE").unwrap();
+    replayed(&matches, schedule(alloc, text)?)
 }
 
 /// What the words ask for, where they are a command's.
@@ -56,9 +153,8 @@ pub fn read_job<'w>(alloc: Global, words: &'w [String]) -> Result<Job<'w>, Words
         "instrument" => Ok(Job::Instrument {
             file: read_file(alloc, "instrument", words)?,
         }),
-        "solo" => Ok(Job::Solo {
-            file: read_file(alloc, "solo", words)?,
-        }),
+        "solo" => read_solo(alloc, words),
+        "replay" => read_replay(alloc, words),
         _ => Err(WordsFault::Refused),
     }
 }

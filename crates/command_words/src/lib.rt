@@ -5,10 +5,12 @@ ghost use Rattle.std.specs.Prelude.{◌≡◌};
 
 mod commands;
 mod jobs;
+mod numbers;
 #[cfg(test)]
 mod tests;
 
-pub use jobs::{Job, read_job};
+use bsan_ids::NoMemory;
+pub use jobs::{Job, Replay, Settings, read_job};
 use std::alloc::AllocError;
 
 /// Why the words ask for nothing.
@@ -16,7 +18,7 @@ use std::alloc::AllocError;
 pub enum WordsFault {
     /// They are no command's.
     Refused,
-    /// Memory ran out while they were read.
+    /// Out of memory.
     NoMemory,
 }
 
@@ -26,6 +28,16 @@ impl From<AllocError> for WordsFault {
     ghost from_gives = { λ _ fault. fault ≡ NoMemory };
 
     fn from(_: AllocError) -> WordsFault {
+        WordsFault::NoMemory
+    }
+}
+
+impl From<NoMemory> for WordsFault {
+    ghost use Rattle.command_words.specs.declared.WordsFault.TheVariants.{NoMemory};
+
+    ghost from_gives = { λ _ fault. fault ≡ NoMemory };
+
+    fn from(_: NoMemory) -> WordsFault {
         WordsFault::NoMemory
     }
 }

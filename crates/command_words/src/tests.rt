@@ -2,59 +2,134 @@ use crate::{Job, WordsFault, read_job};
 use std::alloc::{AllocError, Global};
 use std::test::Fail;
 
-fn texts(alloc: Global, words: &[&str]) -> Result<Vec<String>, AllocError> {
-    let mut texts = Vec::new(alloc);
-    for word in words {
-        texts.push(String::from_str(alloc, word)?)?;
+/// What the words of a line ask for, which are separated by single blanks.
+fn told(alloc: Global, line: &str) -> Result<String, AllocError> {
+    let mut words = Vec::new(alloc);
+    for word in line.split(' ') {
+        words.push(String::from_str(alloc, word)?)?;
     }
-    Ok(texts)
+    match read_job(alloc, words.as_slice()) {
+        Ok(Job::Check { file }) => format!(in alloc; "check {file}"),
+        Ok(Job::Instrument { file }) => format!(in alloc; "instrument {file}"),
+        Ok(Job::Replay(asked)) => {
+            let file = asked.file;
+            let input = asked.settings.input.unwrap_or("none");
+            let limits = asked.settings.limits;
+            let steps = limits.steps;
+            let turns = limits.turns;
+            let allocs = limits.allocs;
+            let picks = asked.schedule.len();
+            let last = asked.schedule.as_slice().last().map_or(0, |pick| pick.0);
+            format!(in alloc; "replay {file} {input} {steps} {turns} {allocs} {picks} {last}")
+        }
+        Err(WordsFault::Refused) => String::from_str(alloc, "refused"),
+        Err(WordsFault::NoMemory) => String::from_str(alloc, "no memory"),
+    }
 }
 
 #[test]
 fn words_are_read(rt: HostRuntime) -> Result<(), Fail> {
     let alloc = rt.alloc();
-    let lines: [(&[&str], &str, &str); 29] = [
-        (&["check", "p"], "check", "p"),
-        (&["instrument", "p"], "instrument", "p"),
-        (&["solo", "p"], "solo", "p"),
-        (&["solo", "solo"], "solo", "solo"),
-        (&["check", "--", "-p"], "check", "-p"),
-        (&["check", "--", "--"], "check", "--"),
-        (&["solo", "p", "--"], "solo", "p"),
-        (&["solo", ""], "solo", ""),
-        (&[], "", ""),
-        (&[""], "", ""),
-        (&["check"], "", ""),
-        (&["check", "--"], "", ""),
-        (&["instrument"], "", ""),
-        (&["instrument", "p", "q"], "", ""),
-        (&["solo", "p", "q"], "", ""),
-        (&["solo", "p", "--", "q"], "", ""),
-        (&["Check", "p"], "", ""),
-        (&["chec", "p"], "", ""),
-        (&["run", "p"], "", ""),
-        (&["p", "check"], "", ""),
-        (&["help"], "", ""),
-        (&["--help"], "", ""),
-        (&["check", "--help"], "", ""),
-        (&["check", "-h"], "", ""),
-        (&["solo", "-p"], "", ""),
-        (&["solo", "--steps", "5", "p"], "", ""),
-        (&["solo", "p", "--steps=5"], "", ""),
-        (&["solo", "p", "--input"], "", ""),
-        (&["check", "--FILE", "p"], "", ""),
+    let taken = [
+        ("check p", "check p"),
+        ("instrument p", "instrument p"),
+        ("check -- -p", "check -p"),
+        ("check -- --", "check --"),
+        ("solo p", "replay p none 1000000 10000000 65536 0 0"),
+        ("solo solo", "replay solo none 1000000 10000000 65536 0 0"),
+        ("solo p --", "replay p none 1000000 10000000 65536 0 0"),
+        ("solo ", "replay  none 1000000 10000000 65536 0 0"),
+        ("solo --steps 5 p", "replay p none 5 10000000 65536 0 0"),
+        ("solo p --steps=1", "replay p none 1 10000000 65536 0 0"),
+        (
+            "solo p --steps 4000000",
+            "replay p none 4000000 10000000 65536 0 0",
+        ),
+        (
+            "solo p --turns 100000000",
+            "replay p none 1000000 100000000 65536 0 0",
+        ),
+        (
+            "solo p --allocs=1 --turns=0000000007",
+            "replay p none 1000000 7 1 0 0",
+        ),
+        ("solo --input q p", "replay p q 1000000 10000000 65536 0 0"),
+        ("solo p --input=", "replay p  1000000 10000000 65536 0 0"),
+        ("replay p 0", "replay p none 1000000 10000000 65536 1 0"),
+        (
+            "replay p 1,0,0002,1023",
+            "replay p none 1000000 10000000 65536 4 1023",
+        ),
+        (
+            "replay --steps 2 p --input i 7 --turns 3",
+            "replay p i 2 3 65536 1 7",
+        ),
     ];
-    for (words, command, file) in lines {
-        let texts = texts(alloc, words)?;
-        let (read, of) = match read_job(alloc, texts.as_slice()) {
-            Ok(Job::Check { file }) => ("check", file),
-            Ok(Job::Instrument { file }) => ("instrument", file),
-            Ok(Job::Solo { file }) => ("solo", file),
-            Err(WordsFault::Refused) => ("", ""),
-            Err(WordsFault::NoMemory) => ("no memory", ""),
-        };
-        assert_eq!(rt; read, command);
-        assert_eq!(rt; of, file);
+    for (line, want) in taken {
+        assert_eq!(rt; told(alloc, line)?.as_str(), want);
     }
+    let refused = [
+        "",
+        "check",
+        "check --",
+        "instrument p q",
+        "check p --steps 5",
+        "check --FILE p",
+        "Check p",
+        "chec p",
+        "p check",
+        "run p",
+        "help",
+        "--help",
+        "check --help",
+        "check -h",
+        "solo -p",
+        "solo p q",
+        "solo p -- q",
+        "solo p --step 5",
+        "solo p --steps",
+        "solo p --input",
+        "solo p --steps --turns 5",
+        "solo p --steps 1 --steps 2",
+        "solo p --steps 0",
+        "solo p --steps 4000001",
+        "solo p --turns 0",
+        "solo p --turns 100000001",
+        "solo p --allocs 0",
+        "solo p --allocs 65537",
+        "solo p --steps 00000000007",
+        "solo p --steps +5",
+        "solo p --steps -5",
+        "solo p --steps 5x",
+        "solo p --steps=",
+        "replay p",
+        "replay p 1024",
+        "replay p 00001",
+        "replay p 1,,2",
+        "replay p ,1",
+        "replay p 1,",
+        "replay p ",
+        "replay p 1 2",
+        "replay p +1",
+        "replay p 1;2",
+    ];
+    for line in refused {
+        assert_eq!(rt; told(alloc, line)?.as_str(), "refused", "{line}");
+    }
+    assert_eq!(rt; read_job(alloc, &[]).is_err(), true);
+    Ok(())
+}
+
+#[test]
+fn a_schedule_has_at_most_65536_numbers(rt: HostRuntime) -> Result<(), Fail> {
+    let alloc = rt.alloc();
+    let mut line = String::from_str(alloc, "replay p 7")?;
+    for _ in 1..65_536 {
+        line.push_str(",9")?;
+    }
+    let want = "replay p none 1000000 10000000 65536 65536 9";
+    assert_eq!(rt; told(alloc, line.as_str())?.as_str(), want);
+    line.push_str(",0")?;
+    assert_eq!(rt; told(alloc, line.as_str())?.as_str(), "refused");
     Ok(())
 }

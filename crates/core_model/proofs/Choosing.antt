@@ -32,9 +32,8 @@ use Rattle.runs.specs.Threads.{EndsAs}
 use Rattle.runs.proofs.ReplayState.{found_set}
 use Rattle.runs.proofs.Tracking.{some_inj}
 use Rattle.source_sem.specs.Records.{allowed}
-use Rattle.source_sem.specs.Starting.{main_of, main_start}
+use Rattle.source_sem.specs.Starting.{main_start}
 use Rattle.source_sem.specs.Source.{Setting, Source, source, source_ask, source_site, source_answer, source_child, source_fits}
-use Rattle.core_model.specs.declared.run.Pick.{Pick}
 use Rattle.core_model.specs.declared.run.Pick.TheVariants as pick
 use Rattle.core_model.specs.Ends.{pick_of}
 use Rattle.core_model.specs.Fibers.{Seen}

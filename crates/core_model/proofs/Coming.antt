@@ -33,7 +33,7 @@ use Rattle.source_runs.proofs.OwnLimits.{answer_own}
 use Rattle.source_runs.proofs.Worlds.{replies_always_fit, pieces_are_bytes}
 use Rattle.source_sem.specs.Joining.{JoinLaw, ThreadStands}
 use Rattle.source_sem.specs.Records.{allowed}
-use Rattle.source_sem.specs.Source.{Setting, Source, source, source_ask, source_child, source_fits}
+use Rattle.source_sem.specs.Source.{Setting, Source, source, source_ask, source_fits}
 use Rattle.source_sem.specs.Starting.{main_of, main_start}
 use Rattle.source_sem.specs.Traps.{PlainIsOwn}
 use Rattle.source_sem.proofs.JoinSteps.{join_law}

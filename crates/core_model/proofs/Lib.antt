@@ -8,6 +8,6 @@ pub mod Taking
 pub mod Numbers
 pub mod SeenLists
 pub mod Settling
-pub mod Turning
 pub mod Resting
 pub mod Keeping
+pub mod Ready

@@ -19,7 +19,6 @@ use Rattle.core_model.specs.Ends.{end_in, is_open, IsEndOf, pick_of}
 use Rattle.core_model.specs.declared.fiber.Took.TheVariants.{Stepped, Ended}
 use Rattle.core_model.specs.declared.run.Pick.TheVariants as pick
 use Rattle.core_model.specs.Fibers.{Seen, seen, all_seen, StartsChild, first_seen, GivesFitting, Takes}
-use Rattle.runs.specs.Machine.{MayGoOn}
 use Rattle.runs.specs.Objects.{objects}
 use Rattle.runs.specs.Replay.{waits}
 use Rattle.runs.specs.Threads.{AsksStep}

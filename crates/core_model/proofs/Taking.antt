@@ -1,7 +1,6 @@
 -- A settled thread of the code: what it asks may be asked, and what it comes to is a pick.
-use Rattle.std.proofs.Common.{◌≡◌, ◌≢◌, ℕ, zero, suc, ◌+◌, ◌<◌, List, [], ◌∷◌, ◌++◌, true, false, refl, sym, ◌∙◌, ap, subst, inl, inr, length, arith}
+use Rattle.std.proofs.Common.{◌≡◌, ◌≢◌, ℕ, zero, suc, ◌+◌, ◌<◌, List, [], ◌∷◌, ◌++◌, false, refl, sym, ◌∙◌, ap, subst, inl, inr, length}
 use Rattle.std.specs.Prelude.{Option, Some, None, is_none, map, slice_get, slice_set, unwrap_or, option_map}
-use Rattle.std.proofs.lemmas.Bool.{true≢false}
 use Rattle.bsan_ids.specs.declared.numbers.Counters.{Counters}
 use Rattle.bsan_ids.specs.declared.numbers.Limits.{Limits}
 use Rattle.bsan_ids.specs.declared.numbers.Prov.{Prov}
@@ -24,7 +23,6 @@ use Rattle.run_memory.specs.Memory.{Memory, Stays}
 use Rattle.run_memory.specs.declared.states.Step.TheVariants.{Done, Ends as StepEnds}
 use Rattle.history.specs.declared.log.End.{End}
 use Rattle.history.specs.declared.log.End.TheVariants as log_end
-use Rattle.runs.specs.Machine.{MayGoOn}
 use Rattle.runs.specs.Objects.{objects}
 use Rattle.runs.specs.Replay as replays
 use Rattle.runs.specs.Replay.{waits, end_at, EndsNext, drawn_by_end, new_fibers, DrawsStamp}

@@ -136,7 +136,7 @@ fn prepare_end(tree: &mut LazyTree, tag: Tag) -> Result<(), NoMemory>
 }
 
 /// Whether a span has a byte and lies in the allocation.
-fn fits(tree: &LazyTree, span: Span) -> bool
+pub fn fits(tree: &LazyTree, span: Span) -> bool
     ensures yes { IsTrue result → (1 ≤ span.len) × (span.start + span.len ≤ tree.now.size) }
     ensures no { IsFalse result → (1 ≤ span.len) → (span.start + span.len ≤ tree.now.size) → ⊥ }
 {

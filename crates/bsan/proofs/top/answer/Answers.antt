@@ -8,4 +8,4 @@ text_for-requires g c =
     found_reportable
     (seen_files (g.S.Files.content c.args.files.now) (g.S.Files.faults c.args.files.now) (g.S.Files.faults c.find.new.files)
     (g.S.Files.overlong c.args.files.now) (g.S.Files.overlong c.find.new.files))
-    (map string_bytes c.args.words.now) c.find.new.kept c.in-Ok.found c.in-Ok.ensures
+    c.args.hosts.now.table (map string_bytes c.args.words.now) c.find.new.kept c.in-Ok.found c.in-Ok.ensures

@@ -1,4 +1,4 @@
-use Rattle.std.proofs.Common.{sym, ap, subst, ◌∙◌, List}
+use Rattle.std.proofs.Common.{sym, subst, List, rules}
 use Rattle.history.specs.declared.entry.Entry.{Entry}
 use Rattle.race_check.proofs.Samples.{AreCounted, counted_more, counted_rise}
 use Rattle.race_check.proofs.tests.entries.Goals as goal

@@ -10,6 +10,7 @@ use Rattle.alloc_state.specs.Prepared.{AreBelow}
 use Rattle.alloc_state.proofs.LongerHistory.{IsHistory-push, replay-push}
 use Rattle.alloc_state.proofs.TagsBelow.{AreBelow-replay}
 use Rattle.alloc_state.proofs.Makes.{none_made}
+use Rattle.alloc_state.proofs.Repeating.{still-after, run-cuts}
 use Rattle.alloc_state.proofs.alloc_state.AllocState.commit.Goals as goal
 
 pub run-ran-requires-clause-newest : goal.run-ran-requires-clause-newest
@@ -35,6 +36,8 @@ invariant_of-self c =
       history = rw c.push_reserved.ensures.items (IsHistory-push number entries entry c.self.invariant.history later refl c.requires.fitting (λ h. none_made entries (once h)) reply);
       bytes = rw c.push_reserved.ensures.items (All-append (λ (x : Entry). HasBytes x.request) entries (entry ∷ []) c.self.invariant.bytes (All-cons (λ (x : Entry). HasBytes x.request) entry [] c.requires.bytes (All-nil (λ (x : Entry). HasBytes x.request))));
       state = ap (replay (unmade number)) c.push_reserved.ensures.items ∙ replay-push (unmade number) entries entry ∙ ap (λ (o : Object). (answer o request stamp).object) state ∙ sym c.run-ran.ensures.object;
+      still = rw c.push_reserved.ensures.items (still-after c.self.inside.state.object.number c.self.inside.state.object.made c.self.inside.state.tree c.run-ran.new.self.tree entries entry c.run-ran.ensures.reply c.run-ran.ensures.counted);
+      cuts = rw c.push_reserved.ensures.items (run-cuts entries entry c.self.inside.state.object.number c.self.inside.state.object.made c.self.inside.state.tree c.run-ran.new.self.tree c.self.invariant.cuts c.run-ran.ensures.counted);
       room = rw c.run-ran.ensures.ready tt;
     }
 

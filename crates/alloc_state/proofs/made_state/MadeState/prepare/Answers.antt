@@ -41,6 +41,7 @@ returns-in-Ok-clause-taken c =
     ∙ ap (λ (p : PlainValue). asked c.args.number.0 (made-by p (eager_of c.self.inside.tree) c.self.inside.closed) c.args.request.now) c.reserve.ensures.same
     ∙ ap (λ (v : MadeValue). asked c.args.number.0 (made_of v) c.args.request.now) c.self.view_is in
     record {
+      size = subst (λ (t : Shape). c.prepare.new.tree.size ≡ t.size) tree c.prepare.ensures.size;
       rises = subst (λ (t : Shape). t.visits ≤ c.prepare.new.tree.visits) tree c.prepare.ensures.rises;
       ring = subst (λ (a : Result TreeRequest Verdict). IfOk a (IsWithinRing c.args.self.now.tree c.prepare.new.tree)) asks (subst (λ (t : Shape). IsWithinRing t c.prepare.new.tree c.in-Ok.asks) tree c.prepare.ensures.ring);
       quiet = subst (λ (t : Shape). KeepsQuiet t c.prepare.new.tree) tree c.prepare.ensures.quiet;
