@@ -156,7 +156,7 @@ broken files hosts sink words kept answer (inl told) tells = by_found told.found
     by_found (Instrumented target) cause puts = absurd (unless (in_program (Instrumented target) cause).1)
     by_found Ran cause puts = absurd (unless (in_program Ran cause).0)
 
--- where all is well, the job is served, or want of memory comes
+-- where all is well, the job is served, or the call is out of memory
 pub complete : (files : FilesSeen) (hosts : HostTable) (sink : SinkSeen) (words : List Text) (kept : RunRecord) (answer : ℕ)
     → Answers files hosts sink words kept answer → IsComplete files hosts sink words kept answer
 complete files hosts sink words kept answer (inr out) job text input program well = inr out.status

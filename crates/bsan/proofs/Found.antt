@@ -130,7 +130,7 @@ rest_finds part whole hosts words kept (Err e) job text program later asked read
 rest_finds part whole hosts words kept (Ok found) job text program later asked read reads finds =
     found_in_text whole hosts words kept found job text program asked read reads (later_finds part whole hosts kept found job program later finds)
 
--- a refusal that is no want of memory
+-- a refusal that is not for memory
 refuses : (text : List ℕ) (f : ReadFault) → f ≢ read_fault.NoMemory → IsRefusal text f → Refuses text f
 refuses text (read_fault.TooLarge at) some is = is
 refuses text (read_fault.BadByte at) some is = is

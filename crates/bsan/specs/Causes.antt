@@ -49,7 +49,7 @@ pub record TellsText (files : FilesSeen) (words : List Text) (P : Job → List �
 abbrev pub IsUnread : FilesSeen → List Text → Type 0
 IsUnread files words = OfFile words (λ file. IsFault files file)
 
--- 7, since the program's file was not read, or a text that was not put whole, or want of memory
+-- 7, since the program's file was not read, or a text that was not put whole, or out of memory
 abbrev pub ComesBetween : FilesSeen → List Text → ℕ → Type 0
 ComesBetween files words answer = ((answer ≡ 7) × IsUnread files words) ⊎ IsCutShort answer
 
@@ -187,7 +187,7 @@ IsServed hosts sink kept program input answer (Check file) = IsCounted sink prog
 IsServed hosts sink kept program input answer (Instrument file) = IsTranslated hosts sink program answer
 IsServed hosts sink kept program input answer (Replay file schedule settings) = Succeeds hosts sink kept program input schedule settings answer
 
--- where all is well, the job is served, or want of memory comes
+-- where all is well, the job is served, or the call is out of memory
 abbrev pub IsComplete : FilesSeen → HostTable → SinkSeen → List Text → RunRecord → ℕ → Type 0
 IsComplete files hosts sink words kept answer = (job : Job) (text input : List ℕ) (program : Program)
     → AllIsWell files hosts sink words job text input program → IsServed hosts sink kept program input answer job ⊎ (answer ≡ 9)

@@ -34,7 +34,7 @@ const FILE_LIMIT: u64 = 1_048_576;
 /// The status where the sink failed.
 const PUT_FAILED: u8 = 8;
 
-/// The status of want of memory.
+/// The status where a call is out of memory.
 const NO_MEMORY: u8 = 9;
 
 /// Puts a text whose status is given, and answers that status, or 8 or 9 where the put failed.
@@ -378,7 +378,7 @@ pub fn bsan_alone<S: Files, K: Sink>(
     // 2, 3, 4 and 7 leave no record.
     ensures no_record { LeavesNone kept.new result }
 
-    // Where all is well outside, only want of memory can come between.
+    // Where all is well outside, only being out of memory can come between.
     ensures complete { IsComplete
         (seen_files (S.content files.old) (S.faults files.old) (S.faults files.new) (S.overlong files.old) (S.overlong files.new))
         hosts.now.table

@@ -3,7 +3,6 @@
 
 ghost use Rattle.std.specs.Prelude.{◌≡◌, [], drop, IfOk, OnErr};
 ghost use Rattle.std.specs.Vec.Iter.{into_iter_items};
-ghost use Rattle.hosts.specs.Standard.{standard_table};
 
 use bsan::bsan_alone;
 use bsan_ids::NoMemory;
@@ -27,7 +26,7 @@ fn after_name(alloc: Global, all: Args) -> Result<Vec<String>, NoMemory>
 }
 
 // The words of the command line, where they could be had. Where they couldn't, as where one isn't
-// UTF-8, there are none, unless it was for want of memory.
+// UTF-8, there are none, unless there was no memory for them.
 fn words_of(alloc: Global, all: io::Result<Args>) -> Result<Vec<String>, NoMemory>
     ensures had { IfOk all (λ all. IfOk result (λ words. words.items ≡ drop 1 (into_iter_items all))) }
     ensures failed { OnErr all (IfOk result (λ words. words.items ≡ [])) }
@@ -39,22 +38,17 @@ fn words_of(alloc: Global, all: io::Result<Args>) -> Result<Vec<String>, NoMemor
     }
 }
 
-// The host functions of the program.
-fn standard_hosts(alloc: Global) -> Result<Hosts, NoMemory>
-    ensures { IfOk result (λ hosts. hosts.table ≡ standard_table) }
-{
-    let table = standard_table(alloc)?;
-    let answerer = Box::new(alloc, standard_answer)?;
-    Ok(Hosts::new(table, answerer))
-}
-
 fn main(rt: HostRuntime) -> ExitCode {
     let Ok(words) = words_of(rt.alloc(), env::args(&rt)) else {
         return ExitCode::from(NO_MEMORY);
     };
-    let Ok(hosts) = standard_hosts(rt.alloc()) else {
+    let Ok(table) = standard_table(rt.alloc()) else {
         return ExitCode::from(NO_MEMORY);
     };
+    let Ok(answerer) = Box::new(rt.alloc(), standard_answer) else {
+        return ExitCode::from(NO_MEMORY);
+    };
+    let hosts = Hosts::new(table, answerer);
     let mut files = RealFiles::new(&rt);
     let mut out = RealSink::new(&rt);
     let mut kept = RunRecord::new(rt.alloc());
