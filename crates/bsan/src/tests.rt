@@ -1,3 +1,7 @@
+ghost use Rattle.std.specs.Prelude.{◌<◌, length};
+ghost use Rattle.hosts.specs.Rules.{IsAnswer};
+ghost use Rattle.hosts.specs.Standard.{standard_table};
+
 use crate::bsan_alone;
 use bsan_ids::{ListOf, Name};
 use hosts::{Hosts, standard_answer, standard_table};
@@ -47,7 +51,11 @@ fn call(alloc: Global, line: &str, given: &Given<'_>, room: Option<u64>) -> Resu
     let Ok(table) = standard_table(alloc) else {
         return Err(Fail::new("standard_table"));
     };
-    let hosts = Hosts::new(table, Box::new(alloc, standard_answer)?);
+    let standard = |number: u32, first: u64, second: u64|
+        requires { number < length standard_table.entries }
+        ensures { IsAnswer standard_table number first second result }
+    { standard_answer(number, first, second) };
+    let hosts = Hosts::new(table, Box::new(alloc, standard)?);
     let mut kept = RunRecord::new(alloc);
     let status = bsan_alone(
         alloc,
@@ -431,11 +439,11 @@ fn answers_files_and_sinks(rt: HostRuntime) -> Result<(), Fail> {
     ];
     for (program, size, failing, length, status, text) in calls {
         let mut filled = String::from_str(alloc, program)?;
-        while filled.len() < size {
+        for _ in filled.len()..size {
             filled.push_str(" ")?;
         }
         let mut input = String::from_str(alloc, "A")?;
-        while input.len() < length {
+        for _ in input.len()..length {
             input.push_str(" ")?;
         }
         let given = Given {

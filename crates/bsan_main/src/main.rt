@@ -1,8 +1,10 @@
 //! The command: the system's files and standard output under the top call.
 #![tactic(auto)]
 
-ghost use Rattle.std.specs.Prelude.{◌≡◌, [], drop, IfOk, OnErr};
+ghost use Rattle.std.specs.Prelude.{◌≡◌, ◌<◌, [], drop, length, IfOk, OnErr};
 ghost use Rattle.std.specs.Vec.Iter.{into_iter_items};
+ghost use Rattle.hosts.specs.Rules.{IsAnswer};
+ghost use Rattle.hosts.specs.Standard.{standard_table};
 
 use bsan::bsan_alone;
 use bsan_ids::NoMemory;
@@ -45,7 +47,11 @@ fn main(rt: HostRuntime) -> ExitCode {
     let Ok(table) = standard_table(rt.alloc()) else {
         return ExitCode::from(NO_MEMORY);
     };
-    let Ok(answerer) = Box::new(rt.alloc(), standard_answer) else {
+    let answer = |number: u32, first: u64, second: u64|
+        requires { number < length standard_table.entries }
+        ensures { IsAnswer standard_table number first second result }
+    { standard_answer(number, first, second) };
+    let Ok(answerer) = Box::new(rt.alloc(), answer) else {
         return ExitCode::from(NO_MEMORY);
     };
     let hosts = Hosts::new(table, answerer);
