@@ -299,7 +299,7 @@ end-answers number v w request tag stamp new piece verdict is plain judge =
 
 -- a request that plain memory refuses is not asked of the tree
 pub counted-none : (t : Shape) (verdict : Verdict) → IsCounted t t (Err Clean) verdict
-counted-none t verdict = record { size = refl; rises = omega arith; ring = tt; still = λ e. tt; cuts = λ at lt h. inl h }
+counted-none t verdict = record { size = refl; rises = omega arith; idle = omega arith; ring = tt; still = λ e. tt; cuts = λ at lt h. inl h }
 
 -- what is no Make, no Retag and no end of a protector is for data
 pub is-data : (request : Request) → is_make request ≡ false → ((at len : ℕ) (kind : _) (guard : _) (prov : Option Prov) → request ≡ Retag at len kind guard prov → ⊥) → ((tag : Tag) → request ≡ EndProtector tag → ⊥) → is_data request ≡ true

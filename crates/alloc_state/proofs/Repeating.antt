@@ -1,5 +1,5 @@
 -- The last access changes nothing when it is repeated, and the tree's cuts are those of the entries.
-use Rattle.std.proofs.Common.{◌≡◌, ◌⊎◌, ℕ, ◌+◌, ◌<◌, ◌==◌, ◌&&◌, ◌||◌, not, eqb, eq-eqb, Bool, true, false, if◌then◌else◌, List, [], ◌∷◌, ◌++◌, Option, Some, None, MatchOption, Result, Ok, Err, IfOk, length, refl, sym, ap, subst, ◌∙◌, arith, inl, inr}
+use Rattle.std.proofs.Common.{◌≡◌, ◌⊎◌, ℕ, ◌+◌, ◌-◌, ◌*◌, ◌<◌, ◌≤◌, is_some, ◌==◌, ◌&&◌, ◌||◌, not, eqb, eq-eqb, Bool, true, false, if◌then◌else◌, List, [], ◌∷◌, ◌++◌, Option, Some, None, MatchOption, Result, Ok, Err, IfOk, length, refl, sym, ap, subst, ◌∙◌, arith, inl, inr}
 use Rattle.bsan_ids.specs.declared.numbers.Tag.{Tag}
 use Rattle.bsan_ids.specs.declared.numbers.Stamp.{Stamp}
 use Rattle.bsan_ids.specs.declared.numbers.Span.{Span}
@@ -8,7 +8,7 @@ use Rattle.perm_table.specs.declared.Kind.{Kind}
 use Rattle.perm_table.specs.declared.Kind.TheVariants.{Read, Write}
 use Rattle.ir_ast.specs.Words.{width_bytes, ty_bytes}
 use Rattle.eager_tree.specs.declared.violation.Violation.TheVariants.{Stranger, Freed as WasFreed, OutOfRange}
-use Rattle.eager_tree.specs.Tree.{Tree, is_node}
+use Rattle.eager_tree.specs.Tree.{Tree, is_node, links}
 use Rattle.history.specs.declared.trap.Trap.{Trap}
 use Rattle.history.specs.declared.entry.Entry.{Entry}
 use Rattle.history.specs.declared.entry.Request.{Request}
@@ -17,17 +17,23 @@ use Rattle.history.specs.declared.entry.Plain.TheVariants.{Trapped}
 use Rattle.history.specs.declared.entry.Reply.{Reply}
 use Rattle.history.specs.declared.entry.Verdict.{Verdict}
 use Rattle.history.specs.declared.entry.Verdict.TheVariants.{Clean, Closed, Violated}
-use Rattle.history.specs.Memory.{span_of, is_outside, trap_in}
-use Rattle.history.specs.Objects.{Made, Judged, Reborrow, reborrow, answer, data_unless, judged, node_through, step_of, through, kind_of}
+use Rattle.history.specs.Memory.{span_of, is_outside, trap_in, Memory}
+use Rattle.history.specs.Objects.{Made, Judged, Reborrow, reborrow, answer, data_unless, judged, node_through, step_of, through, kind_of, Object}
 use Rattle.history.specs.Histories.{is_make}
 use Rattle.lazy_tree.specs.Quiet.{IsQuiet, KeepsQuiet, KeepsCuts}
-use Rattle.lazy_tree.specs.Ring.{is_cut}
+use Rattle.lazy_tree.specs.Ring.{is_cut, pieces, ring_size}
+use Rattle.lazy_tree.specs.Eager.{eager_of}
+use Rattle.lazy_tree.proofs.Counting.{count-within}
 use Rattle.lazy_tree.specs.Shape.{Shape}
+use Rattle.lazy_access.specs.Ready.{IsWithinRing}
 use Rattle.lazy_access.specs.declared.request.TreeRequest.{TreeRequest}
 use Rattle.lazy_access.specs.declared.request.TreeRequest.TheVariants.{Retag as AskRetag, EndProtector as AskEnd}
 use Rattle.alloc_state.specs.Asking.{asks_on, asks_through, asked, asked_unless, refusal, judged_as}
-use Rattle.alloc_state.specs.Counted.{IsStill, IsEndAsked, IsCounted}
-use Rattle.alloc_state.specs.Repeats.{Reach, reach_of, IsCleanAccess, StaysStill, IsStillAfter, is_end_of, is_end, is_cut_by, HasCutsBy, IsMadeOrCounted, IsRunCounted, IsPrepareCounted}
+use Rattle.alloc_state.specs.Counted.{IsStill, IsEndAsked, IsCounted, IsIdle}
+use Rattle.alloc_state.specs.Repeats.{Reach, reach_of, IsCleanAccess, StaysStill, IsStillAfter, is_end_of, is_end, is_cut_by, pieces_by, HasCutsBy, IsMadeOrCounted, IsRunCounted, IsPrepareCounted, IsRepeat, IsWithinRepeat, ring_times_pieces, visits_of}
+use Rattle.history.specs.Fragments.{Shadow}
+use Rattle.std.specs.Option.{option_map, option_map_or}
+use Rattle.std.proofs.Math.Nat.{mul-le-mul_left}
 use Rattle.alloc_state.proofs.Answering.{data-of}
 
 -- The last access.
@@ -232,7 +238,7 @@ run-cuts entries e number (Some m) (Some t) (Some u) h counted = make-cuts entri
 run-cuts entries e number (Some m) (Some t) None h counted = absurd counted
 run-cuts entries e number (Some m) None after h counted = absurd counted
 run-cuts entries e number None before None h counted = tt
-run-cuts entries e number None before (Some u) h counted = λ at lt cut. absurd (no-cut u at counted cut)
+run-cuts entries e number None before (Some u) h counted = λ at lt cut. absurd (no-cut u at counted.1 cut)
 
 -- Room.
 
@@ -259,3 +265,113 @@ prepare-cuts entries number (Some m) (Some t) (Some u) request h counted = taken
 prepare-cuts entries number (Some m) (Some t) None request h counted = tt
 prepare-cuts entries number (Some m) None after request h counted = subst (HasCutsBy entries) (sym counted) h
 prepare-cuts entries number None before after request h counted = subst (HasCutsBy entries) (sym counted) h
+
+-- The counter.
+
+-- the tree's pieces of a span are at most those of the entries
+pieces-few : (entries : List Entry) (t : Shape) (span : Span) → span.start + span.len ≤ t.size → HasCutsBy entries (Some t) → pieces t.nodes span ≤ pieces_by entries span
+unfolding pieces pieces_by
+pieces-few entries t span within h =
+    let more = count-within (is_cut t.nodes) (is_cut_by entries) (span.start + 1) (span.len - 1) (λ b low high cut. h b (omega (arith, low, high, within)) cut) in
+    omega (arith, more)
+
+asked-bound : (number : ℕ) (entries : List Entry) (t u : Shape) (tag : Tag) (span : Span) (kind : Kind) (there : Bool) → IsQuiet t tag span kind → HasCutsBy entries (Some t) → IsIdle (asks_through (if there then Some tag else None) (asks_on (Some span) kind)) t u → IfOk (asks_through (if there then Some tag else None) (asks_on (Some span) kind)) (IsWithinRing t u) →
+    u.visits ≤ t.visits + ring_size (links (eager_of t).nodes) tag * pieces_by entries span
+asked-bound number entries t u tag span kind true quiet cuts idle ring =
+    let few = pieces-few entries t span quiet.within cuts in
+    let some : u.visits ≤ t.visits + ring_size (links (eager_of t).nodes) tag * pieces t.nodes span = ring quiet in
+    omega (arith, some, mul-le-mul_left (ring_size (links (eager_of t).nodes) tag) few)
+asked-bound number entries t u tag span kind false quiet cuts idle ring = omega (arith, idle)
+
+-- an access that changes nothing raises the counter by no more than ring times pieces
+access-bound : (number : ℕ) (entries : List Entry) (t u : Shape) (prov : Option Prov) (span : Span) (kind : Kind) (closed : Bool) → StaysStill t (record { prov = prov; span = span; kind = kind }) → HasCutsBy entries (Some t) → IsIdle (if closed then Err Closed else asks_through (node_through number (eager_of t) prov) (asks_on (Some span) kind)) t u → IfOk (if closed then Err Closed else asks_through (node_through number (eager_of t) prov) (asks_on (Some span) kind)) (IsWithinRing t u) →
+    u.visits ≤ t.visits + option_map_or (λ (p : Prov). ring_size (links (eager_of t).nodes) p.tag) prov 0 * pieces_by entries span
+access-bound number entries t u prov span kind true still cuts idle ring = omega (arith, idle)
+access-bound number entries t u None span kind false still cuts idle ring = absurd still
+access-bound number entries t u (Some prov) span kind false still cuts idle ring = asked-bound number entries t u prov.tag span kind (prov.alloc.0 == number && is_node (eager_of t) prov.tag) still cuts idle ring
+
+made_with : Memory → Shadow → Shape → Bool → Made
+made_with memory shadow t closed = record { memory = memory; shadow = shadow; tree = eager_of t; closed = closed }
+
+-- the bound of a request that repeats an access which changes nothing
+asks-bound : (number : ℕ) (entries : List Entry) (memory : Memory) (shadow : Shadow) (closed : Bool) (t u : Shape) (request : Request) (r : Reach) → reach_of request ≡ Some r → StaysStill t r → HasCutsBy entries (Some t) → IsIdle (asked number (made_with memory shadow t closed) request) t u → IfOk (asked number (made_with memory shadow t closed) request) (IsWithinRing t u) → u.visits ≤ t.visits + ring_times_pieces (made_with memory shadow t closed) entries r
+unfolding made_with
+asks-bound number entries memory shadow closed t u request r access still cuts idle ring = by-request request access idle ring where
+  -- the access is the request's
+  same : (a : Reach) → Some a ≡ Some r → (StaysStill t a → u.visits ≤ t.visits + ring_times_pieces (made_with memory shadow t closed) entries a) → u.visits ≤ t.visits + ring_times_pieces (made_with memory shadow t closed) entries r
+  same a e h = subst (λ (x : Reach). u.visits ≤ t.visits + ring_times_pieces (made_with memory shadow t closed) entries x) (let f : a ≡ r = cc in f) (h (subst (λ (x : Reach). StaysStill t x) (let f : r ≡ a = cc in f) still))
+
+  by-request : (q : Request) → reach_of q ≡ Some r → IsIdle (asked number (made_with memory shadow t closed) q) t u → IfOk (asked number (made_with memory shadow t closed) q) (IsWithinRing t u) → u.visits ≤ t.visits + ring_times_pieces (made_with memory shadow t closed) entries r
+  by-request (Make size place) e i w = absurd (let no_reach : None ≡ Some r = e in cc)
+  by-request (Load at ty prov) e i w = same _ e (λ s. access-bound number entries t u prov (record { start = at; len = ty_bytes ty }) Read closed s cuts i w)
+  by-request (Store at ty value carried prov) e i w = same _ e (λ s. access-bound number entries t u prov (record { start = at; len = ty_bytes ty }) Write closed s cuts i w)
+  by-request (Modify at width op value prov) e i w = same _ e (λ s. access-bound number entries t u prov (record { start = at; len = width_bytes width }) Write closed s cuts i w)
+  by-request (CmpXchg at width expected value prov) e i w = same _ e (λ s. access-bound number entries t u prov (record { start = at; len = width_bytes width }) Write closed s cuts i w)
+  by-request (CopyOut at len prov) e i w = same _ e (λ s. access-bound number entries t u prov (record { start = at; len = len }) Read closed s cuts i w)
+  by-request (CopyIn at piece prov) e i w = same _ e (λ s. access-bound number entries t u prov (record { start = at; len = length piece }) Write closed s cuts i w)
+  by-request (Retag at len kind guard prov) e i w = absurd (let no_reach : None ≡ Some r = e in cc)
+  by-request (EndProtector tag) e i w = absurd (let no_reach : None ≡ Some r = e in cc)
+  by-request (Free at stack prov) e i w = absurd (let no_reach : None ≡ Some r = e in cc)
+  by-request (Print value) e i w = absurd (let no_reach : None ≡ Some r = e in cc)
+  by-request (Host n first second) e i w = absurd (let no_reach : None ≡ Some r = e in cc)
+  by-request (Spawn function) e i w = absurd (let no_reach : None ≡ Some r = e in cc)
+  by-request (Join child) e i w = absurd (let no_reach : None ≡ Some r = e in cc)
+
+made-bound : (number : ℕ) (entries : List Entry) (m : Made) (t u : Shape) (request : Request) (r : Reach) → eager_of t ≡ m.tree → reach_of request ≡ Some r → StaysStill t r → HasCutsBy entries (Some t) → IsIdle (asked number m request) t u → IfOk (asked number m request) (IsWithinRing t u) → u.visits ≤ t.visits + ring_times_pieces m entries r
+unfolding made_with
+made-bound number entries m t u request r stands access still cuts idle ring =
+    let same : made_with m.memory m.shadow t m.closed ≡ m = ap (λ (e : Tree). (let x : Made = record { memory = m.memory; shadow = m.shadow; tree = e; closed = m.closed } in x)) stands in
+    subst (λ (x : Made). u.visits ≤ t.visits + ring_times_pieces x entries r) same
+    (asks-bound number entries m.memory m.shadow m.closed t u request r access still cuts
+    (subst (λ (x : Made). IsIdle (asked number x request) t u) (sym same) idle)
+    (subst (λ (x : Made). IfOk (asked number x request) (IsWithinRing t u)) (sym same) ring))
+
+unless-bound : (trap : Option Trap) (asks : Result TreeRequest Verdict) (t u : Shape) (most : ℕ) → (IsIdle asks t u → IfOk asks (IsWithinRing t u) → u.visits ≤ t.visits + most) → IsIdle (asked_unless trap asks) t u → IfOk (asked_unless trap asks) (IsWithinRing t u) → u.visits ≤ t.visits + most
+unless-bound None asks t u most h idle ring = h idle ring
+unless-bound (Some trap) asks t u most h idle ring = omega (arith, idle)
+
+some-stands : (t : Shape) (m : Made) → option_map eager_of (Some t) ≡ option_map (λ (x : Made). x.tree) (Some m) → eager_of t ≡ m.tree
+some-stands t m e = cc
+
+repeat-made : (number : ℕ) (entries : List Entry) (m : Made) (t u : Shape) (request : Request) (verdict : Verdict) (r : Reach) (make : Bool) → is_make request ≡ make → eager_of t ≡ m.tree → IsStillAfter entries (Some t) → HasCutsBy entries (Some t) → IsRepeat entries request r → IsMadeOrCounted make number m t u request verdict → u.visits ≤ t.visits + ring_times_pieces m entries r
+repeat-made number entries m t u request verdict r true make stands still cuts again counted = absurd (no-access request r make again.again)
+repeat-made number entries m t u request verdict r false make stands still cuts again counted =
+    unless-bound (refusal m.memory request) (asked number m request) t u (ring_times_pieces m entries r)
+    (λ idle ring. made-bound number entries m t u request r stands again.again (still again.before again.last r again.ends again.access) cuts idle ring)
+    counted.idle counted.ring
+
+-- the commit of a repeat
+pub run-repeat : (o : Object) (entries : List Entry) (before after : Option Shape) (request : Request) (verdict : Verdict) → option_map eager_of before ≡ option_map (λ (m : Made). m.tree) o.made → IsStillAfter entries before → HasCutsBy entries before → IsRunCounted o.number o.made before after request verdict → IsWithinRepeat o entries request (visits_of before) (visits_of after)
+run-repeat o entries before after request verdict stands still cuts counted r again = by-case o.made before after stands still cuts counted where
+  by-case : (made : Option Made) (t u : Option Shape) → option_map eager_of t ≡ option_map (λ (m : Made). m.tree) made → IsStillAfter entries t → HasCutsBy entries t → IsRunCounted o.number made t u request verdict → MatchOption made (visits_of u ≤ visits_of t) (λ m. visits_of u ≤ visits_of t + ring_times_pieces m entries r)
+  by-case (Some m) (Some t) (Some u) e s c k = repeat-made o.number entries m t u request verdict r (is_make request) refl (some-stands t m e) s c again k
+  by-case (Some m) (Some t) None e s c k = absurd k
+  by-case (Some m) None u e s c k = absurd k
+  by-case None (Some t) u e s c k = absurd (let wrong : Some t ≡ None = k.0 in cc)
+  by-case None None u e s c k = absurd (s again.before again.last r again.ends again.access)
+
+-- the room for a repeat
+pub prepare-repeat : (o : Object) (entries : List Entry) (before after : Option Shape) (request : Request) → option_map eager_of before ≡ option_map (λ (m : Made). m.tree) o.made → IsStillAfter entries before → HasCutsBy entries before → IsPrepareCounted o.number o.made before after request → IsWithinRepeat o entries request (visits_of before) (visits_of after)
+prepare-repeat o entries before after request stands still cuts counted r again = by-case o.made before after stands still cuts counted where
+  by-case : (made : Option Made) (t u : Option Shape) → option_map eager_of t ≡ option_map (λ (m : Made). m.tree) made → IsStillAfter entries t → HasCutsBy entries t → IsPrepareCounted o.number made t u request → MatchOption made (visits_of u ≤ visits_of t) (λ m. visits_of u ≤ visits_of t + ring_times_pieces m entries r)
+  by-case (Some m) (Some t) (Some u) e s c k = made-bound o.number entries m t u request r (some-stands t m e) again.again (s again.before again.last r again.ends again.access) c k.idle k.ring
+  by-case (Some m) (Some t) None e s c k = absurd (let wrong : None ≡ Some t = k in cc)
+  by-case (Some m) None u e s c k = absurd (s again.before again.last r again.ends again.access)
+  by-case None t u e s c k = (let same : visits_of u ≡ visits_of t = ap visits_of k in omega (arith, same))
+
+made-rises : (make : Bool) (number : ℕ) (m : Made) (t u : Shape) (request : Request) (verdict : Verdict) → (make ≡ true → ⊥) → IsMadeOrCounted make number m t u request verdict → t.visits ≤ u.visits
+made-rises true number m t u request verdict no_make counted = absurd (no_make refl)
+made-rises false number m t u request verdict no_make counted = counted.rises
+
+-- the counter doesn't fall
+pub run-rises : (number : ℕ) (made : Option Made) (before after : Option Shape) (request : Request) (verdict : Verdict) → (is_make request ≡ true → is_some made ≡ false) → IsRunCounted number made before after request verdict → visits_of before ≤ visits_of after
+run-rises number (Some m) (Some t) (Some u) request verdict once counted = made-rises (is_make request) number m t u request verdict (λ make. (let wrong : true ≡ false = once make in cc)) counted
+run-rises number (Some m) (Some t) None request verdict once counted = absurd counted
+run-rises number (Some m) None after request verdict once counted = absurd counted
+run-rises number None before after request verdict once counted = (let none : visits_of before ≡ 0 = ap visits_of counted.0 in omega (arith, none))
+
+pub prepare-rises : (number : ℕ) (made : Option Made) (before after : Option Shape) (request : Request) → IsPrepareCounted number made before after request → visits_of before ≤ visits_of after
+prepare-rises number (Some m) (Some t) (Some u) request counted = counted.rises
+prepare-rises number (Some m) (Some t) None request counted = (let same : visits_of None ≡ visits_of (Some t) = ap visits_of counted in omega (arith, same))
+prepare-rises number (Some m) None after request counted = (let same : visits_of after ≡ visits_of None = ap visits_of counted in omega (arith, same))
+prepare-rises number None before after request counted = (let same : visits_of after ≡ visits_of before = ap visits_of counted in omega (arith, same))

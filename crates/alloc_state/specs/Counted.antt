@@ -27,11 +27,17 @@ abbrev pub IsEndAsked : Result TreeRequest Verdict → ℕ → Type 0
 IsEndAsked (Err verdict) at = ⊥
 IsEndAsked (Ok request) at = IsEndOf request at
 
+-- without a request to the tree the counter stays
+abbrev pub IsIdle : Result TreeRequest Verdict → Shape → Shape → Type 0
+IsIdle (Err verdict) before after = after.visits ≤ before.visits
+IsIdle (Ok request) before after = Unit {0}
+
 -- The counter doesn't fall, and where an access changes nothing it rises by no more than ring times pieces.
 -- An access with a clean verdict changes nothing from then on. New cuts are the ends of what is asked.
 pub record IsCounted (before after : Shape) (asks : Result TreeRequest Verdict) (verdict : Verdict) : Type 0 where
   pub size : after.size ≡ before.size
   pub rises : before.visits ≤ after.visits
+  pub idle : IsIdle asks before after
   pub ring : IfOk asks (IsWithinRing before after)
   pub still : verdict ≡ Clean → IfOk asks (IsStill after)
   pub cuts : (at : ℕ) → at < before.size → IsTrue (is_cut after.nodes at) → IsTrue (is_cut before.nodes at) ⊎ IsEndAsked asks at
@@ -40,6 +46,7 @@ pub record IsCounted (before after : Shape) (asks : Result TreeRequest Verdict) 
 pub record IsRoomTaken (before after : Shape) (asks : Result TreeRequest Verdict) : Type 0 where
   pub size : after.size ≡ before.size
   pub rises : before.visits ≤ after.visits
+  pub idle : IsIdle asks before after
   pub ring : IfOk asks (IsWithinRing before after)
   pub quiet : KeepsQuiet before after
   pub cuts : KeepsCuts before after

@@ -11,11 +11,13 @@ use Rattle.history.specs.Histories.{replay, is_make, HasBytes, IsHistory}
 use Rattle.alloc_state.specs.Prepared.{Prepared}
 use Rattle.alloc_state.specs.Repeats.{IsStillAfter, HasCutsBy}
 
--- an allocation's number, its entries, oldest first, and the request for which memory was taken
+-- an allocation's number, its entries, oldest first, and the request for which memory was taken; beside them
+-- the counter of its tree
 pub record Log : Type 0 where
   pub number : AllocNo
   pub entries : List Entry
   pub ready : Option Request
+  pub visits : ℕ
 
 -- whether one of the entries is a Make
 abbrev pub has_make : List Entry → Bool

@@ -1,6 +1,6 @@
 -- The accesses among an allocation's entries, what a repeat of the last one may look at, and the cuts.
-use Rattle.std.specs.Prelude.{ℕ, ◌≡◌, ◌+◌, ◌-◌, ◌<◌, ◌==◌, ◌||◌, ◌++◌, ◌∷◌, [], Bool, true, false, IsTrue, List, Option, Some, None, MatchOption}
-use Rattle.std.specs.Option.{option_map}
+use Rattle.std.specs.Prelude.{ℕ, ◌≡◌, ◌+◌, ◌-◌, ◌<◌, ◌==◌, ◌||◌, ◌++◌, ◌∷◌, [], Bool, true, false, IsTrue, List, Option, Some, None, MatchOption, ◌*◌, ◌≤◌}
+use Rattle.std.specs.Option.{option_map, option_map_or}
 use Rattle.std.specs.List.{list_any}
 use Rattle.bsan_ids.specs.declared.numbers.Prov.{Prov}
 use Rattle.bsan_ids.specs.declared.numbers.Span.{Span}
@@ -13,10 +13,11 @@ use Rattle.history.specs.declared.entry.Plain.TheVariants.{Trapped}
 use Rattle.history.specs.declared.entry.Verdict.{Verdict}
 use Rattle.history.specs.declared.entry.Verdict.TheVariants.{Clean}
 use Rattle.history.specs.Memory.{span_of}
-use Rattle.history.specs.Objects.{Made, through, kind_of}
+use Rattle.eager_tree.specs.Tree.{links}
+use Rattle.history.specs.Objects.{Object, Made, through, kind_of}
 use Rattle.history.specs.Histories.{is_make}
 use Rattle.lazy_tree.specs.Quiet.{IsQuiet}
-use Rattle.lazy_tree.specs.Ring.{is_cut, count}
+use Rattle.lazy_tree.specs.Ring.{is_cut, count, ring_size}
 use Rattle.lazy_tree.specs.Shape.{Shape}
 use Rattle.alloc_state.specs.Asking.{asked, asked_unless, refusal}
 use Rattle.alloc_state.specs.Counted.{IsCounted, IsRoomTaken}
@@ -76,10 +77,30 @@ IsMadeOrCounted false number m t u request verdict = IsCounted t u (asked_unless
 abbrev pub IsRunCounted : ℕ → Option Made → Option Shape → Option Shape → Request → Verdict → Type 0
 IsRunCounted number (Some m) (Some t) (Some u) request verdict = IsMadeOrCounted (is_make request) number m t u request verdict
 IsRunCounted number (Some m) before after request verdict = ⊥
-IsRunCounted number None before None request verdict = Unit {0}
-IsRunCounted number None before (Some u) request verdict = u.nodes ≡ []
+IsRunCounted number None before after request verdict = (before ≡ None) × MatchOption after (Unit {0}) (λ u. u.nodes ≡ [])
 
 -- what the room for a request does to the tree
 abbrev pub IsPrepareCounted : ℕ → Option Made → Option Shape → Option Shape → Request → Type 0
 IsPrepareCounted number (Some m) (Some t) (Some u) request = IsRoomTaken t u (asked number m request)
 IsPrepareCounted number made before after request = after ≡ before
+
+-- the counter of a tree, 0 where there is none
+abbrev pub visits_of : Option Shape → ℕ
+visits_of tree = option_map_or (λ t. t.visits) tree 0
+
+-- the request repeats the last entry, an access that was neither refused nor denied
+pub record IsRepeat (entries : List Entry) (request : Request) (r : Reach) : Type 0 where
+  pub before : List Entry
+  pub last : Entry
+  pub ends : entries ≡ before ++ last ∷ []
+  pub access : IsCleanAccess last r
+  pub again : reach_of request ≡ Some r
+
+-- the ring of the access's node, times the pieces of its span
+abbrev pub ring_times_pieces : Made → List Entry → Reach → ℕ
+ring_times_pieces m entries r = option_map_or (λ p. ring_size (links m.tree.nodes) p.tag) r.prov 0 * pieces_by entries r.span
+
+-- a repeat raises the counter by no more than ring times pieces
+abbrev pub IsWithinRepeat : Object → List Entry → Request → ℕ → ℕ → Type 0
+IsWithinRepeat o entries request before after =
+    (r : Reach) → IsRepeat entries request r → MatchOption o.made (after ≤ before) (λ m. after ≤ before + ring_times_pieces m entries r)

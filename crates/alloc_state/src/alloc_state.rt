@@ -1,11 +1,11 @@
 //! The log of one allocation.
-ghost use Rattle.std.specs.Prelude.{◌≡◌, ◌∷◌, ◌++◌, [], ◌<◌, All, IsTrue, OnOk, OnErr, Some, None, true, false};
+ghost use Rattle.std.specs.Prelude.{◌≡◌, ◌∷◌, ◌++◌, [], ◌<◌, ◌≤◌, All, IsTrue, OnOk, OnErr, Some, None, true, false};
 ghost use Rattle.std.specs.Option.{option_map};
 ghost use Rattle.history.specs.Objects.{answer, unmade};
 ghost use Rattle.lazy_tree.specs.Eager.{eager_of};
 ghost use Rattle.history.specs.Histories.{HasBytes, replay, fits, is_make, IsHistory};
 ghost use Rattle.alloc_state.specs.Log.{has_make};
-ghost use Rattle.alloc_state.specs.Repeats.{IsStillAfter, HasCutsBy};
+ghost use Rattle.alloc_state.specs.Repeats.{IsStillAfter, HasCutsBy, IsWithinRepeat, visits_of};
 
 use crate::object_state::ObjectState;
 use bsan_ids::{AllocNo, ListOf, NoMemory, Stamp, ThreadNo};
@@ -32,7 +32,9 @@ impl Model for AllocState {
 
     ghost Value = { Log };
 
-    ghost view = { λ l. record { number = l.number; entries = l.entries.items; ready = l.state.ready } };
+    ghost use Rattle.alloc_state.specs.Repeats.{visits_of};
+
+    ghost view = { λ l. record { number = l.number; entries = l.entries.items; ready = l.state.ready; visits = visits_of l.state.tree } };
 
     ghost invariant = { λ l. IsKept l.number.0 l.entries l.state };
 }
@@ -46,7 +48,7 @@ impl Logged for AllocState {
 impl AllocState {
     /// A number that was never made, without entries. It takes no memory.
     pub fn unmade(alloc: Global, number: AllocNo) -> AllocState
-        ensures { result ≡ record { number = number; entries = []; ready = None } }
+        ensures { result ≡ record { number = number; entries = []; ready = None; visits = 0 } }
     {
         AllocState {
             number,
@@ -55,15 +57,19 @@ impl AllocState {
         }
     }
 
-    /// Takes all memory that `commit` needs for this request, for the copy that it answers too.
+    /// Takes all memory that `commit` needs for this request, for the copy that it answers too. The
+    /// counter of the tree may rise: for a repeat of the last access, where that was neither refused nor
+    /// denied, by at most the ring of its node times the pieces of its span.
     ///
     /// # Errors
     ///
     /// `NoMemory`: out of memory. The entries and a request that was prepared before stay.
     pub fn prepare(&mut self, request: &Request) -> Result<(), NoMemory>
         requires { IsTrue (fits request.now) }
-        ensures ok { OnOk result (self.new ≡ record self.old { ready = Some request.now }) }
-        ensures err { OnErr result (self.new ≡ self.old) }
+        ensures ok { OnOk result (self.new ≡ record self.old { ready = Some request.now; visits = self.new.visits }) }
+        ensures err { OnErr result (self.new ≡ record self.old { visits = self.new.visits }) }
+        ensures rises { self.old.visits ≤ self.new.visits }
+        ensures repeat { IsWithinRepeat (replay (unmade self.old.number.0) self.old.entries) self.old.entries request.now self.old.visits self.new.visits }
     {
         self.entries.reserve(1)?;
         let alloc = *self.entries.allocator();
@@ -73,7 +79,9 @@ impl AllocState {
     /// Appends the entry of a step with the allocation's reply, and answers a copy of the entry.
     ///
     /// The request is the one that was prepared last, the stamp above those of all entries, and a Make
-    /// comes only where there is none among them. It takes no memory.
+    /// comes only where there is none among them. It takes no memory. A repeat of the last access, where
+    /// that was neither refused nor denied, raises the counter of the tree by at most the ring of its node
+    /// times the pieces of its span.
     pub fn commit(&mut self, thread: ThreadNo, stamp: Stamp, site: u32, request: Request) -> Entry
         requires ready { self.old.ready ≡ Some request }
         requires later { All (λ e. e.stamp.0 < stamp.0) self.old.entries }
@@ -83,7 +91,9 @@ impl AllocState {
         ensures entry { result ≡ record { thread = thread; stamp = stamp; site = site; alloc = Some self.old.number; request = request; reply = (answer (replay (unmade self.old.number.0) self.old.entries) request stamp).reply } }
         ensures history { IsHistory self.new.number.0 self.new.entries }
         ensures bytes { All (λ e. HasBytes e.request) self.new.entries }
-        ensures appended { self.new ≡ record { number = self.old.number; entries = self.old.entries ++ result ∷ []; ready = None } }
+        ensures appended { self.new ≡ record { number = self.old.number; entries = self.old.entries ++ result ∷ []; ready = None; visits = self.new.visits } }
+        ensures rises { self.old.visits ≤ self.new.visits }
+        ensures repeat { IsWithinRepeat (replay (unmade self.old.number.0) self.old.entries) self.old.entries request self.old.visits self.new.visits }
     {
         let number = self.number;
         let alloc = *self.entries.allocator();
@@ -128,6 +138,7 @@ impl AllocState {
         ensures tree { option_map (λ t. eager_of t.now) result ≡ option_map (λ m. m.tree) (replay (unmade self.now.number.0) self.now.entries).made }
         ensures still { IsStillAfter self.now.entries (option_map (λ t. t.now) result) }
         ensures cuts { HasCutsBy self.now.entries (option_map (λ t. t.now) result) }
+        ensures visits { visits_of (option_map (λ t. t.now) result) ≡ self.now.visits }
     {
         self.state.tree()
     }

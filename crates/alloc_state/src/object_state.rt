@@ -151,14 +151,16 @@ impl ObjectState {
         ensures ok { OnOk result (self.new.ready ≡ Some request.now) }
         ensures err { OnErr result (self.new.ready ≡ self.old.ready) }
         ensures object { self.new.object ≡ self.old.object }
+        ensures stands { option_map eager_of self.old.tree ≡ option_map (λ m. m.tree) self.old.object.made }
         ensures counted { IsPrepareCounted self.old.object.number self.old.object.made self.old.tree self.new.tree request.now }
     {
+        let number = self.number;
         let copy = request.copy()?;
         let fresh = fresh_for(alloc, request)?;
         let piece = piece_for(alloc, &self.made, request)?;
         let again = piece.copy()?;
         if let Some(made) = &mut self.made {
-            made.prepare(self.number, request)?;
+            made.prepare(number, request)?;
         }
         self.ready = Some(Ready {
             request: copy,
@@ -179,6 +181,7 @@ impl ObjectState {
         ensures again { result.again ≡ result.reply }
         ensures object { self.new.object ≡ (answer self.old.object request.now stamp).object }
         ensures ready { self.new.ready ≡ None }
+        ensures stands { option_map eager_of self.old.tree ≡ option_map (λ m. m.tree) self.old.object.made }
         ensures counted { IsRunCounted self.old.object.number self.old.object.made self.old.tree self.new.tree request.now result.reply.verdict }
     {
         let Some(ready) = self.ready.take() else {

@@ -8,6 +8,7 @@ use Rattle.lazy_tree.specs.Quiet.{KeepsQuiet, KeepsCuts}
 use Rattle.lazy_access.specs.declared.request.TreeRequest.{TreeRequest}
 use Rattle.lazy_access.specs.Ready.{KeepsReady, IsWithinRing}
 use Rattle.alloc_state.specs.Asking.{asked}
+use Rattle.alloc_state.specs.Counted.{IsIdle}
 use Rattle.alloc_state.specs.PlainValues.{PlainValue}
 use Rattle.alloc_state.specs.MadeValues.{MadeValue, made_of, KeepsPrepared}
 use Rattle.alloc_state.proofs.Answering.{keeps-prepared}
@@ -43,6 +44,7 @@ returns-in-Ok-clause-taken c =
     record {
       size = subst (λ (t : Shape). c.prepare.new.tree.size ≡ t.size) tree c.prepare.ensures.size;
       rises = subst (λ (t : Shape). t.visits ≤ c.prepare.new.tree.visits) tree c.prepare.ensures.rises;
+      idle = subst (λ (a : Result TreeRequest Verdict). IsIdle a c.args.self.now.tree c.prepare.new.tree) asks tt;
       ring = subst (λ (a : Result TreeRequest Verdict). IfOk a (IsWithinRing c.args.self.now.tree c.prepare.new.tree)) asks (subst (λ (t : Shape). IsWithinRing t c.prepare.new.tree c.in-Ok.asks) tree c.prepare.ensures.ring);
       quiet = subst (λ (t : Shape). KeepsQuiet t c.prepare.new.tree) tree c.prepare.ensures.quiet;
       cuts = subst (λ (t : Shape). KeepsCuts t c.prepare.new.tree) tree c.prepare.ensures.cuts;
