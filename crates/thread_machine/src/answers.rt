@@ -8,7 +8,7 @@ ghost use Rattle.thread_machine.specs.Thread.{answer_by, copy_answer, counted, f
 ghost use Rattle.thread_machine.specs.Ready.{HasProtector, HasRoom, HasStack};
 ghost use Rattle.thread_machine.specs.Views.{CallersFit, FitsRow, HasNumber, IsMade, IsSpawned};
 
-use crate::owned::StackAllocation;
+use thread_parts::StackAllocation;
 use crate::state::ThreadState;
 use bsan_ids::{AllocNo, ThreadNo};
 use history::{Arg, MachineEnd, Plain, Reply};

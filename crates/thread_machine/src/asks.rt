@@ -7,7 +7,8 @@ ghost use Rattle.thread_parts.specs.Parts.{binary_part, make_part, nth_value, pa
 ghost use Rattle.thread_parts.specs.Copies.{copy_ask, piece_at};
 ghost use Rattle.thread_parts.specs.Words.{number_at};
 ghost use Rattle.thread_machine.specs.Thread.{free_part, lines_ask, operand_at, operands_at, pointer_at, read_part, version_ask, write_part};
-ghost use Rattle.thread_machine.specs.Views.{IsAddressing, IsPlainLine};
+ghost use Rattle.thread_parts.specs.Asks.{AsksAllocation};
+ghost use Rattle.thread_machine.specs.Views.{IsPlainLine};
 
 use crate::addresses::{number_of, offset_of};
 use crate::frame::Frame;
@@ -285,7 +286,7 @@ impl<'p> ThreadState<'p> {
     #[tactic(auto, using(crate::proofs::Asked::asks_at, crate::proofs::Asked::asks_nothing, crate::proofs::Asked::asks_over))]
     pub fn ask(&self, version: u8) -> Result<Ask, NoMemory>
         ensures asks { IfOk result (λ a. a ≡ version_ask version self.now.thread) }
-        ensures refused { OnErr result (IsAddressing (version_ask version self.now.thread)) }
+        ensures refused { OnErr result (AsksAllocation (version_ask version self.now.thread)) }
     {
         if let Some(end) = self.over {
             return Ok(Ask::Ended(end));

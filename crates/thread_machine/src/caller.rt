@@ -1,6 +1,6 @@
 //! A frame that waits for the result of a call.
 use crate::frame::Frame;
-use crate::owned::Owned;
+use thread_parts::Owned;
 use std::marker::Model;
 
 /// A frame with what it must give up at its return.

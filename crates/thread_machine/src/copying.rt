@@ -1,7 +1,7 @@
 //! How far a copy has come.
 ghost use Rattle.std.specs.Prelude.{◌≡◌, ◌<◌, ◌*◌, ◌^◌, ◌%◌, ◌+◌, ◌-◌, min, true, IfOk, OnErr, OnOk, if◌then◌else◌};
 ghost use Rattle.thread_parts.specs.Copies.{copied_of, copy_after, copy_ask, copy_done, piece_at, untouched};
-ghost use Rattle.thread_machine.specs.Views.{IsAddressing};
+ghost use Rattle.thread_parts.specs.Asks.{AsksAllocation};
 
 use crate::addresses::{number_of, offset_of};
 use bsan_ids::NoMemory;
@@ -89,7 +89,7 @@ impl CopyProgress {
     /// `NoMemory`: out of memory for the piece that is written.
     pub fn ask(&self, to: Arg, from: Arg, len: u64) -> Result<Ask, NoMemory>
         ensures asks { IfOk result (λ a. a ≡ copy_ask to from len self.now.progress) }
-        ensures refused { OnErr result (IsAddressing (copy_ask to from len self.now.progress)) }
+        ensures refused { OnErr result (AsksAllocation (copy_ask to from len self.now.progress)) }
     {
         match &self.buffer {
             Some(half) if self.has_half => {

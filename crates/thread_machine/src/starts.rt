@@ -7,7 +7,7 @@ ghost use Rattle.thread_machine.specs.Views.{FitsTarget, begun_frame, entry_of, 
 use crate::calls::Spare;
 use crate::copying::CopyProgress;
 use crate::frame::Frame;
-use crate::owned::Owned;
+use thread_parts::Owned;
 use crate::row::ArgRow;
 use crate::state::ThreadState;
 use crate::width::target_width;

@@ -8,7 +8,7 @@ ghost use Rattle.thread_machine.specs.Views.{row_index, IsWordless, IsShadowless
 use crate::caller::Caller;
 use crate::copying::CopyProgress;
 use crate::frame::Frame;
-use crate::owned::Owned;
+use thread_parts::Owned;
 use crate::row::ArgRow;
 use crate::words::{cast, compare, cut, work};
 use bsan_ids::Prov;
