@@ -12,7 +12,8 @@ ghost use Rattle.instrument.specs.Translation.{operand_of, shadow_of, operands_o
 ghost use Rattle.instrument.specs.Translation as translation;
 ghost use Rattle.instrument.specs.Names.{Numbered, OpNumbered, JumpNumbered, BlockNumbered};
 ghost use Rattle.instrument.specs.Lines.{Adds};
-ghost use Rattle.instrument.specs.Families.{IsComputing, IsMemoryOp, IsCalling};
+ghost use Rattle.ir_rules.specs.Families.{IsMemoryOp, IsCalling};
+ghost use Rattle.instrument.specs.Families.{IsComputing};
 
 use crate::arguments::{put_args, put_goal, put_result};
 use crate::operands::{operand, operands, put_for_ptr, put_with_shadow, shadow};

@@ -5,7 +5,8 @@ ghost use Rattle.thread_parts.specs.Parts as parts;
 ghost use Rattle.ir_ast.specs.Attributes.{attr_of_call};
 ghost use Rattle.ir_ast.specs.Numbers.{function_place};
 ghost use Rattle.source_sem.specs.Source.{Setting, op_part};
-ghost use Rattle.source_machine.specs.Families.{IsCalling, IsComputing, IsMemoryOp};
+ghost use Rattle.ir_rules.specs.Families.{IsCalling, IsMemoryOp};
+ghost use Rattle.source_machine.specs.Families.{IsComputing};
 ghost use Rattle.source_machine.specs.Parts.{access_in, part_in};
 
 use crate::operands::{
