@@ -4,8 +4,8 @@ ghost use Rattle.history.specs.declared.ask.Ask.TheVariants as asked;
 ghost use Rattle.history.specs.Replies.{Answers};
 ghost use Rattle.instrument.specs.Translation.{translation};
 ghost use Rattle.source_sem.specs.Source.{source_ask, source_begins, source_fits, source_site};
-ghost use Rattle.thread_machine.specs.Thread.{thread_ask};
 ghost use Rattle.thread_parts.specs.Asks.{AsksAllocation};
+ghost use Rattle.thread_machine.specs.Thread.{thread_ask};
 ghost use Rattle.thread_machine.specs.Views.{IsSpawn};
 
 use crate::text::{TextCall, TextStep, TextThread};

@@ -3,8 +3,8 @@ ghost use Rattle.std.specs.Prelude.{◌≡◌, ◌<◌, length, IfOk, OnErr, OnO
 ghost use Rattle.history.specs.declared.ask.Ask.TheVariants as asked;
 ghost use Rattle.history.specs.Replies.{Answers};
 ghost use Rattle.thread_parts.specs.Fits.{ReplyFits};
-ghost use Rattle.thread_machine.specs.Thread.{row_of, thread_answer, thread_ask, thread_begins, thread_child, thread_site, thread_start, thread_turn};
 ghost use Rattle.thread_parts.specs.Asks.{AsksAllocation};
+ghost use Rattle.thread_machine.specs.Thread.{row_of, thread_answer, thread_ask, thread_begins, thread_child, thread_site, thread_start, thread_turn};
 ghost use Rattle.thread_machine.specs.Views.{IsSpawn, setting};
 
 use crate::calls::Spare;
