@@ -7,6 +7,7 @@ ghost use Rattle.std.specs.Prelude.{◌≤◌};
 mod journal;
 mod maps;
 mod rates;
+mod steps;
 #[cfg(test)]
 mod tests;
 
@@ -14,10 +15,13 @@ use bsan_ids::NoMemory;
 use maps::{even_writes, random_writes, run_count};
 use rates::rate;
 use std::{env, io};
+use steps::{LoopOf, run};
 
 const USE: &str = "bench turns CALLS measures 1, 2 and 4 threads that make CALLS calls each
 bench random LENGTH makes 100,000 random writes on a map of LENGTH bytes
-bench even LENGTH makes one write at each even byte of a map of LENGTH bytes";
+bench even LENGTH makes one write at each even byte of a map of LENGTH bytes
+bench local PARTS runs a machine over so many local instructions
+bench steps PARTS runs a machine over so many parts of a loop that loads";
 
 fn main(rt: HostRuntime) -> Result<(), io::Error> {
     let alloc = rt.alloc();
@@ -41,6 +45,17 @@ fn main(rt: HostRuntime) -> Result<(), io::Error> {
             )?;
         }
         return Ok(());
+    }
+    let counted = match kind {
+        "local" => Some(LoopOf::Additions),
+        "steps" => Some(LoopOf::Loads),
+        _ => None,
+    };
+    if let Some(what) = counted {
+        return match run(alloc, what, number) {
+            Ok(count) => println!(rt; "{count} instructions"),
+            Err(NoMemory) => println!(rt; "no memory"),
+        };
     }
     let made = match kind {
         "even" => even_writes(alloc, number),
