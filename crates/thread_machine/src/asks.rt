@@ -1,10 +1,8 @@
 //! What a thread asks.
-ghost use Rattle.std.specs.Prelude.{List, ◌≡◌, ◌+◌, ◌-◌, ◌*◌, ◌%◌, ◌^◌, min, [], ◌∷◌, drop, Some, None, IfOk, OnErr, IfSome, IfNone};
+ghost use Rattle.std.specs.Prelude.{List, ◌≡◌, [], ◌∷◌, drop, IfOk, OnErr, IfSome, IfNone};
 ghost use Rattle.history.specs.declared.ask.Ask.TheVariants as asked;
 ghost use Rattle.history.specs.declared.ask.MachineEnd.TheVariants as ending;
 ghost use Rattle.thread_parts.specs.Parts.{binary_part, make_part, nth_value, part_ask, retag_ask as asked_retag};
-ghost use Rattle.thread_parts.specs.Copies.{copy_ask, piece_at};
-ghost use Rattle.thread_parts.specs.Words.{number_at};
 ghost use Rattle.thread_parts.specs.Asks.{AsksAllocation};
 ghost use Rattle.thread_machine.specs.Thread.{free_part, lines_ask, operand_at, operands_at, pointer_at, read_part, version_ask, write_part};
 ghost use Rattle.thread_machine.specs.Views.{IsPlainLine};

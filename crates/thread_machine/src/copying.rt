@@ -1,5 +1,5 @@
 //! How far a copy has come.
-ghost use Rattle.std.specs.Prelude.{◌≡◌, ◌<◌, ◌*◌, ◌^◌, ◌%◌, ◌+◌, ◌-◌, min, true, IfOk, OnErr, OnOk, if◌then◌else◌};
+ghost use Rattle.std.specs.Prelude.{◌≡◌, ◌<◌, ◌*◌, ◌^◌, ◌-◌, min, true, IfOk, OnErr, OnOk, if◌then◌else◌};
 ghost use Rattle.thread_parts.specs.Copies.{copied_of, copy_after, copy_ask, copy_done, piece_at, untouched};
 ghost use Rattle.thread_parts.specs.Asks.{AsksAllocation};
 
