@@ -1,10 +1,10 @@
 -- What follows from the clause of the top call where a content is told.
-use Rattle.std.proofs.Common.{◌≡◌, ◌≤◌, ◌⊎◌, ℕ, List, length, Option, Some, None, refl, sym, ap, subst, ◌∙◌, arith, inl, inr}
+use Rattle.std.proofs.Common.{◌≡◌, ◌≤◌, ◌⊎◌, ℕ, List, length, Option, Some, None, IfSome, refl, sym, ap, subst, ◌∙◌, arith, inl, inr}
 use Rattle.std.specs.Io.KnownBytes.{Appends}
-use Rattle.std.specs.Option.{IsSomeAnd}
+use Rattle.std.specs.Option.{IsSomeAnd, option_and_then}
 use Rattle.outside_io.specs.Reading.{Tells, IsLongerThan}
-use Rattle.command_words.specs.Jobs.{Job, Settings, job_of}
-use Rattle.command_words.specs.Jobs.Job.{Check, Instrument, Replay}
+use Rattle.command_words.specs.Jobs.{Job, Settings, ScheduledRun, settings_in}
+use Rattle.command_words.specs.Jobs.Job.{Check, Instrument, Replay, Races}
 use Rattle.core_model.specs.Kept.{Replayed}
 use Rattle.ir_ast.specs.declared.hosts.HostTable.{HostTable}
 use Rattle.ir_ast.specs.declared.program.Program.{Program}
@@ -18,29 +18,30 @@ use Rattle.ir_rules.specs.Rules.{IsAccepted, IsFirstBroken}
 use Rattle.target_code.specs.Texts.{target_text}
 use Rattle.target_code.specs.declared.line.Target.{Target}
 use Rattle.history.specs.declared.record.RunRecord.{RunRecord}
-use Rattle.bsan.specs.Words.{Text, file_in, OfInputFile}
+use Rattle.race_check.specs.declared.race.Race.{Race}
+use Rattle.bsan.specs.Words.{Text, file_in}
 use Rattle.bsan.specs.Seen.{FilesSeen, SinkSeen, Failed, WasTooLong, IsFault, Puts}
 use Rattle.bsan.specs.Seen.Puts.{whole, failed, no_memory}
 use Rattle.bsan.specs.Lines.{accepted_line}
-use Rattle.bsan.specs.Runs.{IsInput, IsOfRun}
+use Rattle.bsan.specs.Runs.{IsInput, IsScheduledRun}
 use Rattle.bsan.specs.Answer.{OfFile, OfText, OfProgram, OfJob, FindsIn, HasCause, Answers, text_for, status_for}
 use Rattle.bsan.specs.Causes.{IsCutShort, IsUnread, ComesBetween, IsRefused, IsBroken, TellsText, IsGiven, IsGivenInput, HasInput, IsServed, IsComplete}
 use Rattle.bsan.specs.declared.outcome.Role.TheVariants as role
 use Rattle.bsan.specs.declared.outcome.Outcome.{Outcome}
-use Rattle.bsan.specs.declared.outcome.Outcome.TheVariants.{Usage, FileFault, TooLong, NotRead, NotVerified, Accepted, Instrumented, Ran}
+use Rattle.bsan.specs.declared.outcome.Outcome.TheVariants.{Usage, FileFault, TooLong, NotRead, NotVerified, Accepted, Instrumented, Ran, Raced}
 
-same_job : (words : List Text) (job other : Job) → job_of words ≡ Some job → job_of words ≡ Some other → job ≡ other
-same_job words job other is also = let same : Some job ≡ Some other = sym is ∙ also in cc
+same_job : (asked : Option Job) (job other : Job) → asked ≡ Some job → asked ≡ Some other → job ≡ other
+same_job asked job other is also = let same : Some job ≡ Some other = sym is ∙ also in cc
 
 told_bytes : (content : Option (List ℕ)) (bytes text : List ℕ) → Tells content bytes → content ≡ Some text → bytes ≡ text
 told_bytes None bytes text tells is = absurd cc
 told_bytes (Some content) bytes text tells is = let same : content ≡ text = cc in tells ∙ same
 
 -- what holds of the text that was read holds of the text that is told
-of_told : (files : FilesSeen) (words : List Text) (P : Job → List ℕ → Type 0) (job : Job) (text : List ℕ)
-    → job_of words ≡ Some job → files.content (file_in job) ≡ Some text → OfText files words P → P job text
-of_told files words P job text asked content of =
-    let here : of.job ≡ job = same_job words of.job job of.asked asked in
+of_told : (files : FilesSeen) (asked : Option Job) (P : Job → List ℕ → Type 0) (job : Job) (text : List ℕ)
+    → asked ≡ Some job → files.content (file_in job) ≡ Some text → OfText files asked P → P job text
+of_told files asked P job text is content of =
+    let here : of.job ≡ job = same_job asked of.job job of.is is in
     let same : of.text ≡ text =
     told_bytes (files.content (file_in of.job)) of.text text of.read.told (ap (λ (j : Job). files.content (file_in j)) here ∙ content) in
     subst (λ (t : List ℕ). P job t) same (subst (λ (j : Job). P j of.text) here of.holds)
@@ -85,146 +86,190 @@ put_answer sink text status answer (failed is rose prefix) = inr (inl is)
 put_answer sink text status answer (no_memory is keeps) = inr (inr is)
 
 -- the answer after one put, or after the program's file was not read
-one_put : (files : FilesSeen) (sink : SinkSeen) (words : List Text) (text : List ℕ) (status answer : ℕ) → Puts sink text status answer
-    → (answer ≡ status) ⊎ ComesBetween files words answer
-one_put files sink words text status answer puts =
+one_put : (files : FilesSeen) (sink : SinkSeen) (asked : Option Job) (text : List ℕ) (status answer : ℕ) → Puts sink text status answer
+    → (answer ≡ status) ⊎ ComesBetween files asked answer
+one_put files sink asked text status answer puts =
     elim (put_answer sink text status answer puts) [ inl is ↦ inl is | inr cut ↦ inr (inr cut) ]
 
-file_fault : (files : FilesSeen) (sink : SinkSeen) (words : List Text) (text : List ℕ) (status answer : ℕ) → IsUnread files words → Puts sink text 7 answer
-    → (answer ≡ status) ⊎ ComesBetween files words answer
-file_fault files sink words text status answer unread puts =
+file_fault : (files : FilesSeen) (sink : SinkSeen) (asked : Option Job) (text : List ℕ) (status answer : ℕ) → IsUnread files asked → Puts sink text 7 answer
+    → (answer ≡ status) ⊎ ComesBetween files asked answer
+file_fault files sink asked text status answer unread puts =
     elim (put_answer sink text 7 answer puts) [ inl is ↦ inr (inl (is, unread)) | inr cut ↦ inr (inr cut) ]
 
-unread_by : (files : FilesSeen) (words : List Text) (P : Text → Type 0) → ((file : Text) → P file → IsFault files file) → OfFile words P → IsUnread files words
-unread_by files words P fault of = record { job = of.job; asked = of.asked; holds = fault (file_in of.job) of.holds }
+unread_by : (files : FilesSeen) (asked : Option Job) (P : Text → Type 0) → ((file : Text) → P file → IsFault files file) → OfFile asked P → IsUnread files asked
+unread_by files asked P fault of = record { job = of.job; is = of.is; holds = fault (file_in of.job) of.holds }
 
 -- a content that is told and refused is told so
-pub refused : (files : FilesSeen) (hosts : HostTable) (sink : SinkSeen) (words : List Text) (kept : RunRecord) (answer : ℕ)
-    → Answers files hosts sink words kept answer → TellsText files words (λ job text. IsRefused text) → (answer ≡ 3) ⊎ ComesBetween files words answer
-refused files hosts sink words kept answer (inr out) tells = inr (inr (inr out.status))
-refused files hosts sink words kept answer (inl told) tells = by_found told.found told.cause told.puts
+pub refused : (files : FilesSeen) (hosts : HostTable) (sink : SinkSeen) (asked : Option Job) (kept : RunRecord) (answer : ℕ)
+    → Answers files hosts sink asked kept answer → TellsText files asked (λ job text. IsRefused text) → (answer ≡ 3) ⊎ ComesBetween files asked answer
+refused files hosts sink asked kept answer (inr out) tells = inr (inr (inr out.status))
+refused files hosts sink asked kept answer (inl told) tells = by_found told.found told.cause told.puts
   where
-    unless : (found : Outcome) → OfJob files hosts words kept found → ⊥
+    unless : (found : Outcome) → OfJob files hosts asked kept found → ⊥
     unless found of =
         of_none tells.text (FindsIn files hosts kept found tells.job) tells.holds.0 tells.holds.1
-        (of_told files words (λ job text. OfProgram (FindsIn files hosts kept found job) text) tells.job tells.text tells.asked tells.content of)
+        (of_told files asked (λ job text. OfProgram (FindsIn files hosts kept found job) text) tells.job tells.text tells.is tells.content of)
 
-    by_found : (found : Outcome) → HasCause files hosts words kept found → Puts sink (text_for found kept) (status_for found kept) answer
-        → (answer ≡ 3) ⊎ ComesBetween files words answer
-    by_found Usage cause puts = absurd (let same : None ≡ Some tells.job = sym cause.0 ∙ tells.asked in cc)
+    by_found : (found : Outcome) → HasCause files hosts asked kept found → Puts sink (text_for found kept) (status_for found kept) answer
+        → (answer ≡ 3) ⊎ ComesBetween files asked answer
+    by_found Usage cause puts = absurd (let same : None ≡ Some tells.job = sym cause.0 ∙ tells.is in cc)
     by_found (FileFault role.Program) cause puts =
-        file_fault files sink words _ 3 answer (unread_by files words (λ file. Failed files file) (λ file is. inl is) cause.0) puts
+        file_fault files sink asked _ 3 answer (unread_by files asked (λ file. Failed files file) (λ file is. inl is) cause.0) puts
     by_found (FileFault role.Input) cause puts = absurd (unless (FileFault role.Input) cause)
     by_found (TooLong role.Program) cause puts =
-        file_fault files sink words _ 3 answer (unread_by files words (λ file. WasTooLong files file most_bytes) (λ file is. inr is) cause.0) puts
+        file_fault files sink asked _ 3 answer (unread_by files asked (λ file. WasTooLong files file most_bytes) (λ file is. inr is) cause.0) puts
     by_found (TooLong role.Input) cause puts = absurd (unless (TooLong role.Input) cause)
-    by_found (NotRead read_fault) cause puts = one_put files sink words _ 3 answer puts
+    by_found (NotRead read_fault) cause puts = one_put files sink asked _ 3 answer puts
     by_found (NotVerified rule at) cause puts = absurd (unless (NotVerified rule at) cause)
     by_found (Accepted functions instructions) cause puts = absurd (unless (Accepted functions instructions) cause)
     by_found (Instrumented target) cause puts = absurd (unless (Instrumented target) cause)
     by_found Ran cause puts = absurd (unless Ran cause)
+    by_found (Raced races) cause puts = absurd (unless (Raced races) cause)
 
 -- a content that is told, and a program's in which a rule is broken, is told so
-pub broken : (files : FilesSeen) (hosts : HostTable) (sink : SinkSeen) (words : List Text) (kept : RunRecord) (answer : ℕ)
-    → Answers files hosts sink words kept answer → TellsText files words (λ job text. OfProgram (IsBroken hosts) text)
-    → (answer ≡ 4) ⊎ ComesBetween files words answer
-broken files hosts sink words kept answer (inr out) tells = inr (inr (inr out.status))
-broken files hosts sink words kept answer (inl told) tells = by_found told.found told.cause told.puts
+pub broken : (files : FilesSeen) (hosts : HostTable) (sink : SinkSeen) (asked : Option Job) (kept : RunRecord) (answer : ℕ)
+    → Answers files hosts sink asked kept answer → TellsText files asked (λ job text. OfProgram (IsBroken hosts) text)
+    → (answer ≡ 4) ⊎ ComesBetween files asked answer
+broken files hosts sink asked kept answer (inr out) tells = inr (inr (inr out.status))
+broken files hosts sink asked kept answer (inl told) tells = by_found told.found told.cause told.puts
   where
-    in_program : (found : Outcome) → OfJob files hosts words kept found → FindsIn files hosts kept found tells.job tells.holds.program
+    in_program : (found : Outcome) → OfJob files hosts asked kept found → FindsIn files hosts kept found tells.job tells.holds.program
     in_program found of =
         of_one tells.text (FindsIn files hosts kept found tells.job) tells.holds.program tells.holds.reads
-        (of_told files words (λ job text. OfProgram (FindsIn files hosts kept found job) text) tells.job tells.text tells.asked tells.content of)
+        (of_told files asked (λ job text. OfProgram (FindsIn files hosts kept found job) text) tells.job tells.text tells.is tells.content of)
 
     unless : IsAccepted tells.holds.program hosts → ⊥
     unless accepted = accepted tells.holds.holds.0 tells.holds.holds.1 tells.holds.holds.2
 
-    by_found : (found : Outcome) → HasCause files hosts words kept found → Puts sink (text_for found kept) (status_for found kept) answer
-        → (answer ≡ 4) ⊎ ComesBetween files words answer
-    by_found Usage cause puts = absurd (let same : None ≡ Some tells.job = sym cause.0 ∙ tells.asked in cc)
+    of_check : (functions instructions : ℕ) (job : Job) → FindsIn files hosts kept (Accepted functions instructions) job tells.holds.program → ⊥
+    of_check functions instructions (Check file) finds = unless finds.0
+    of_check functions instructions (Instrument file) finds = finds
+    of_check functions instructions (Replay run) finds = finds
+    of_check functions instructions (Races run) finds = finds
+
+    of_instrument : (target : Target) (job : Job) → FindsIn files hosts kept (Instrumented target) job tells.holds.program → ⊥
+    of_instrument target (Check file) finds = finds
+    of_instrument target (Instrument file) finds = unless finds.0
+    of_instrument target (Replay run) finds = finds
+    of_instrument target (Races run) finds = finds
+
+    of_ran : (job : Job) → FindsIn files hosts kept Ran job tells.holds.program → ⊥
+    of_ran (Check file) finds = finds
+    of_ran (Instrument file) finds = finds
+    of_ran (Replay run) finds = unless finds.0
+    of_ran (Races run) finds = finds
+
+    of_raced : (races : List Race) (job : Job) → FindsIn files hosts kept (Raced races) job tells.holds.program → ⊥
+    of_raced races (Check file) finds = finds
+    of_raced races (Instrument file) finds = finds
+    of_raced races (Replay run) finds = finds
+    of_raced races (Races run) finds = unless finds.0
+
+    by_found : (found : Outcome) → HasCause files hosts asked kept found → Puts sink (text_for found kept) (status_for found kept) answer
+        → (answer ≡ 4) ⊎ ComesBetween files asked answer
+    by_found Usage cause puts = absurd (let same : None ≡ Some tells.job = sym cause.0 ∙ tells.is in cc)
     by_found (FileFault role.Program) cause puts =
-        file_fault files sink words _ 4 answer (unread_by files words (λ file. Failed files file) (λ file is. inl is) cause.0) puts
+        file_fault files sink asked _ 4 answer (unread_by files asked (λ file. Failed files file) (λ file is. inl is) cause.0) puts
     by_found (FileFault role.Input) cause puts = absurd (unless (in_program (FileFault role.Input) cause).0)
     by_found (TooLong role.Program) cause puts =
-        file_fault files sink words _ 4 answer (unread_by files words (λ file. WasTooLong files file most_bytes) (λ file is. inr is) cause.0) puts
+        file_fault files sink asked _ 4 answer (unread_by files asked (λ file. WasTooLong files file most_bytes) (λ file is. inr is) cause.0) puts
     by_found (TooLong role.Input) cause puts = absurd (unless (in_program (TooLong role.Input) cause).0)
     by_found (NotRead read_fault) cause puts =
         absurd (of_none tells.text (IsBroken hosts) read_fault
-        (of_told files words (λ job text. Refuses text read_fault) tells.job tells.text tells.asked tells.content cause.0) tells.holds)
-    by_found (NotVerified rule at) cause puts = one_put files sink words _ 4 answer puts
-    by_found (Accepted functions instructions) cause puts = absurd (unless (in_program (Accepted functions instructions) cause).1)
-    by_found (Instrumented target) cause puts = absurd (unless (in_program (Instrumented target) cause).1)
-    by_found Ran cause puts = absurd (unless (in_program Ran cause).0)
+        (of_told files asked (λ job text. Refuses text read_fault) tells.job tells.text tells.is tells.content cause.0) tells.holds)
+    by_found (NotVerified rule at) cause puts = one_put files sink asked _ 4 answer puts
+    by_found (Accepted functions instructions) cause puts =
+        absurd (of_check functions instructions tells.job (in_program (Accepted functions instructions) cause))
+    by_found (Instrumented target) cause puts = absurd (of_instrument target tells.job (in_program (Instrumented target) cause))
+    by_found Ran cause puts = absurd (of_ran tells.job (in_program Ran cause))
+    by_found (Raced races) cause puts = absurd (of_raced races tells.job (in_program (Raced races) cause))
 
 -- where all is well, the job is served, or the call is out of memory
-pub complete : (files : FilesSeen) (hosts : HostTable) (sink : SinkSeen) (words : List Text) (kept : RunRecord) (answer : ℕ)
-    → Answers files hosts sink words kept answer → IsComplete files hosts sink words kept answer
-complete files hosts sink words kept answer (inr out) job text input program well = inr out.status
-complete files hosts sink words kept answer (inl told) job text input program well = by_found told.found told.cause told.puts
+pub complete : (files : FilesSeen) (hosts : HostTable) (sink : SinkSeen) (asked : Option Job) (kept : RunRecord) (answer : ℕ)
+    → Answers files hosts sink asked kept answer → IsComplete files hosts sink asked kept answer
+complete files hosts sink asked kept answer (inr out) job text input program well = inr out.status
+complete files hosts sink asked kept answer (inl told) job text input program well = by_found told.found told.cause told.puts
   where
-    in_program : (found : Outcome) → OfJob files hosts words kept found → FindsIn files hosts kept found job program
+    in_program : (found : Outcome) → OfJob files hosts asked kept found → FindsIn files hosts kept found job program
     in_program found of =
         of_one text (FindsIn files hosts kept found job) program well.reads
-        (of_told files words (λ j t. OfProgram (FindsIn files hosts kept found j) t) job text well.asked well.given.content of)
+        (of_told files asked (λ j t. OfProgram (FindsIn files hosts kept found j) t) job text well.is well.given.content of)
 
-    was_read : (P : Text → Type 0) → ((file : Text) → P file → IsFault files file) → OfFile words P → ⊥
+    was_read : (P : Text → Type 0) → ((file : Text) → P file → IsFault files file) → OfFile asked P → ⊥
     was_read P fault of =
-        let here : of.job ≡ job = same_job words of.job job of.asked well.asked in
+        let here : of.job ≡ job = same_job asked of.job job of.is well.is in
         not_unread files (file_in job) text well.given (fault (file_in job) (subst (λ (j : Job). P (file_in j)) here of.holds))
 
-    input_was_read : (P : Text → Type 0) → ((file : Text) → P file → IsFault files file) → (asked : Job) → HasInput files input asked → OfInputFile P asked → ⊥
-    input_was_read P fault (Check file) has of = of
-    input_was_read P fault (Instrument file) has of = of
-    input_was_read P fault (Replay file schedule settings) has of = not_unread_input files settings.input input P has fault of
+    input_was_read : (P : Text → Type 0) → ((file : Text) → P file → IsFault files file) → (settings : Option Settings)
+        → IfSome settings (λ s. IsGivenInput files s.input input) → IsSomeAnd (option_and_then (λ s. s.input) settings) P → ⊥
+    input_was_read P fault None has of = of
+    input_was_read P fault (Some s) has of = not_unread_input files s.input input P has fault of
 
-    checked : (functions instructions : ℕ) (asked : Job) → FindsIn files hosts kept (Accepted functions instructions) asked program
-        → Puts sink (accepted_line functions instructions) 0 answer → IsServed hosts sink kept program input answer asked ⊎ (answer ≡ 9)
-    checked functions instructions (Instrument file) finds puts = absurd finds.0
-    checked functions instructions (Replay file schedule settings) finds puts = absurd finds.0
+    -- the replay of the program with this input
+    replayed : (run : ScheduledRun) → IsGivenInput files run.settings.input input → IsScheduledRun files hosts kept program run
+        → Replayed program input hosts run.settings.limits run.schedule kept
+    replayed run has of =
+        subst (λ (bytes : List ℕ). Replayed program bytes hosts run.settings.limits run.schedule kept)
+        (same_input files run.settings.input of.0 input of.1 has) of.2
+
+    checked : (functions instructions : ℕ) (job : Job) → FindsIn files hosts kept (Accepted functions instructions) job program
+        → Puts sink (accepted_line functions instructions) 0 answer → IsServed hosts sink kept program input answer job ⊎ (answer ≡ 9)
+    checked functions instructions (Instrument file) finds puts = absurd finds
+    checked functions instructions (Replay run) finds puts = absurd finds
+    checked functions instructions (Races run) finds puts = absurd finds
     checked functions instructions (Check file) finds (failed is rose prefix) = absurd (well.no_put_fault rose)
     checked functions instructions (Check file) finds (no_memory is keeps) = inr is
     checked functions instructions (Check file) finds (whole is appends) = inl (record {
       status = is;
-      text = rw (← finds.2, ← finds.3) appends;
+      text = rw (← finds.1, ← finds.2) appends;
     })
 
-    instrumented : (target : Target) (asked : Job) → FindsIn files hosts kept (Instrumented target) asked program
-        → Puts sink (target_text target) 0 answer → IsServed hosts sink kept program input answer asked ⊎ (answer ≡ 9)
-    instrumented target (Check file) finds puts = absurd finds.0
-    instrumented target (Replay file schedule settings) finds puts = absurd finds.0
+    instrumented : (target : Target) (job : Job) → FindsIn files hosts kept (Instrumented target) job program
+        → Puts sink (target_text target) 0 answer → IsServed hosts sink kept program input answer job ⊎ (answer ≡ 9)
+    instrumented target (Check file) finds puts = absurd finds
+    instrumented target (Replay run) finds puts = absurd finds
+    instrumented target (Races run) finds puts = absurd finds
     instrumented target (Instrument file) finds (failed is rose prefix) = absurd (well.no_put_fault rose)
     instrumented target (Instrument file) finds (no_memory is keeps) = inr is
     instrumented target (Instrument file) finds (whole is appends) = inl (record {
       status = is;
-      text = subst (λ (t : Target). Appends sink.taken_before sink.taken_after (target_text t)) finds.2 appends;
+      text = subst (λ (t : Target). Appends sink.taken_before sink.taken_after (target_text t)) finds.1 appends;
     })
 
-    ran : (asked : Job) → HasInput files input asked → IsOfRun files hosts kept program asked → Puts sink (text_for Ran kept) (status_for Ran kept) answer
-        → IsServed hosts sink kept program input answer asked ⊎ (answer ≡ 9)
-    ran (Check file) has of puts = absurd of
-    ran (Instrument file) has of puts = absurd of
-    ran (Replay file schedule settings) has of (failed is rose prefix) = absurd (well.no_put_fault rose)
-    ran (Replay file schedule settings) has of (no_memory is keeps) = inr is
-    ran (Replay file schedule settings) has of (whole is appends) = inl (record {
-      run = subst (λ (bytes : List ℕ). Replayed program bytes hosts settings.limits schedule kept) (same_input files settings.input of.0 input of.1 has) of.2;
-      status = is;
-      text = appends;
-    })
-
-    by_found : (found : Outcome) → HasCause files hosts words kept found → Puts sink (text_for found kept) (status_for found kept) answer
+    reported : (job : Job) → HasInput files input job → FindsIn files hosts kept Ran job program → Puts sink (text_for Ran kept) (status_for Ran kept) answer
         → IsServed hosts sink kept program input answer job ⊎ (answer ≡ 9)
-    by_found Usage cause puts = absurd (let same : None ≡ Some job = sym cause.0 ∙ well.asked in cc)
+    reported (Check file) has finds puts = absurd finds
+    reported (Instrument file) has finds puts = absurd finds
+    reported (Races run) has finds puts = absurd finds
+    reported (Replay run) has finds (failed is rose prefix) = absurd (well.no_put_fault rose)
+    reported (Replay run) has finds (no_memory is keeps) = inr is
+    reported (Replay run) has finds (whole is appends) = inl (record { right = replayed run has finds.1; status = is; text = appends })
+
+    raced : (races : List Race) (job : Job) → HasInput files input job → FindsIn files hosts kept (Raced races) job program
+        → Puts sink (text_for (Raced races) kept) (status_for (Raced races) kept) answer → IsServed hosts sink kept program input answer job ⊎ (answer ≡ 9)
+    raced races (Check file) has finds puts = absurd finds
+    raced races (Instrument file) has finds puts = absurd finds
+    raced races (Replay run) has finds puts = absurd finds
+    raced races (Races run) has finds (failed is rose prefix) = absurd (well.no_put_fault rose)
+    raced races (Races run) has finds (no_memory is keeps) = inr is
+    raced races (Races run) has finds (whole is appends) =
+        inl (record { right = replayed run has finds.1; races = races; first = finds.2; status = is; text = appends })
+
+    by_found : (found : Outcome) → HasCause files hosts asked kept found → Puts sink (text_for found kept) (status_for found kept) answer
+        → IsServed hosts sink kept program input answer job ⊎ (answer ≡ 9)
+    by_found Usage cause puts = absurd (let same : None ≡ Some job = sym cause.0 ∙ well.is in cc)
     by_found (FileFault role.Program) cause puts = absurd (was_read (λ file. Failed files file) (λ file is. inl is) cause.0)
     by_found (FileFault role.Input) cause puts =
-        absurd (input_was_read (λ file. Failed files file) (λ file is. inl is) job well.has_input (in_program (FileFault role.Input) cause).1)
+        absurd (input_was_read (λ file. Failed files file) (λ file is. inl is) (settings_in job) well.has_input (in_program (FileFault role.Input) cause).1)
     by_found (TooLong role.Program) cause puts = absurd (was_read (λ file. WasTooLong files file most_bytes) (λ file is. inr is) cause.0)
     by_found (TooLong role.Input) cause puts =
-        absurd (input_was_read (λ file. WasTooLong files file most_bytes) (λ file is. inr is) job well.has_input (in_program (TooLong role.Input) cause).1)
+        absurd (input_was_read (λ file. WasTooLong files file most_bytes) (λ file is. inr is) (settings_in job) well.has_input (in_program (TooLong role.Input) cause).1)
     by_found (NotRead read_fault) cause puts =
-        absurd (not_both text program read_fault well.reads (of_told files words (λ j t. Refuses t read_fault) job text well.asked well.given.content cause.0))
+        absurd (not_both text program read_fault well.reads (of_told files asked (λ j t. Refuses t read_fault) job text well.is well.given.content cause.0))
     by_found (NotVerified rule at) cause puts =
         absurd (unbroken program hosts rule at well.accepted (in_program (NotVerified rule at) cause).0)
     by_found (Accepted functions instructions) cause puts =
         checked functions instructions job (in_program (Accepted functions instructions) cause) puts
     by_found (Instrumented target) cause puts = instrumented target job (in_program (Instrumented target) cause) puts
-    by_found Ran cause puts = ran job well.has_input (in_program Ran cause).1 puts
+    by_found Ran cause puts = reported job well.has_input (in_program Ran cause) puts
+    by_found (Raced races) cause puts = raced races job well.has_input (in_program (Raced races) cause) puts

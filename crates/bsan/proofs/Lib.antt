@@ -1,5 +1,5 @@
 pub mod Found
+pub mod Limits
 pub mod Reportable
-pub mod Running
 pub mod Complete
 pub mod Status

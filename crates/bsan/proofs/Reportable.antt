@@ -1,37 +1,111 @@
--- Of what a run left a report can be made.
-use Rattle.std.proofs.Common.{◌≡◌, List}
-use Rattle.command_words.specs.Jobs.{Job}
-use Rattle.command_words.specs.Jobs.Job.{Check, Instrument, Replay}
+-- Of what a run left its text can be made.
+use Rattle.std.proofs.Common.{◌≡◌, ℕ, List, Option, inl, inr}
+use Rattle.command_words.specs.Jobs.{Job, ScheduledRun}
+use Rattle.command_words.specs.Jobs.Job.{Check, Instrument, Replay, Races}
+use Rattle.history.specs.Records.{empty_record}
 use Rattle.history.specs.declared.record.RunRecord.{RunRecord}
 use Rattle.ir_ast.specs.declared.hosts.HostTable.{HostTable}
 use Rattle.ir_ast.specs.declared.program.Program.{Program}
+use Rattle.ir_rules.specs.Rules.{IsAccepted}
+use Rattle.race_check.specs.declared.race.Race.{Race}
 use Rattle.report.specs.Report.{IsReportable}
 use Rattle.source_runs.proofs.Reporting.{right_records_are_reportable}
-use Rattle.bsan.specs.Words.{Text}
+use Rattle.target_code.specs.declared.line.Target.{Target}
 use Rattle.bsan.specs.Seen.{FilesSeen}
-use Rattle.bsan.specs.Runs.{IsOfRun}
-use Rattle.bsan.specs.Answer.{HasCause}
+use Rattle.bsan.specs.Runs.{IsScheduledRun, IsOfRun}
+use Rattle.bsan.specs.Answer.{OfJob, FindsIn, HasCause, CanBeTold, IsEmptyOrRight}
 use Rattle.bsan.specs.declared.outcome.Role.TheVariants as role
 use Rattle.bsan.specs.declared.outcome.Outcome.{Outcome}
-use Rattle.bsan.specs.declared.outcome.Outcome.TheVariants.{Usage, FileFault, TooLong, NotRead, NotVerified, Accepted, Instrumented, Ran}
+use Rattle.bsan.specs.declared.outcome.Outcome.TheVariants.{Usage, FileFault, TooLong, NotRead, NotVerified, Accepted, Instrumented, Ran, Raced}
 
-run_reportable : (files : FilesSeen) (hosts : HostTable) (kept : RunRecord) (program : Program) (job : Job) → IsOfRun files hosts kept program job
-    → IsReportable kept
-run_reportable files hosts kept program (Check file) of = absurd of
-run_reportable files hosts kept program (Instrument file) of = absurd of
-run_reportable files hosts kept program (Replay file schedule settings) of =
-    right_records_are_reportable program of.0 hosts settings.limits kept of.2.right.right
+pub run_reportable : (files : FilesSeen) (hosts : HostTable) (kept : RunRecord) (program : Program) (run : ScheduledRun)
+    → IsScheduledRun files hosts kept program run → IsReportable kept
+run_reportable files hosts kept program run of =
+    right_records_are_reportable program of.0 hosts run.settings.limits kept of.2.right.right
 
-pub found_reportable : (files : FilesSeen) (hosts : HostTable) (words : List Text) (kept : RunRecord) (found : Outcome)
-    → HasCause files hosts words kept found → found ≡ Ran → IsReportable kept
-found_reportable files hosts words kept Usage cause is = absurd cc
-found_reportable files hosts words kept (FileFault role.Program) cause is = absurd cc
-found_reportable files hosts words kept (FileFault role.Input) cause is = absurd cc
-found_reportable files hosts words kept (TooLong role.Program) cause is = absurd cc
-found_reportable files hosts words kept (TooLong role.Input) cause is = absurd cc
-found_reportable files hosts words kept (NotRead read_fault) cause is = absurd cc
-found_reportable files hosts words kept (NotVerified rule at) cause is = absurd cc
-found_reportable files hosts words kept (Accepted functions instructions) cause is = absurd cc
-found_reportable files hosts words kept (Instrumented target) cause is = absurd cc
-found_reportable files hosts words kept Ran cause is =
-    run_reportable files hosts kept cause.holds.program cause.job cause.holds.holds.1
+ran_told : (files : FilesSeen) (hosts : HostTable) (kept : RunRecord) (program : Program) (job : Job) → FindsIn files hosts kept Ran job program
+    → CanBeTold Ran kept
+ran_told files hosts kept program (Check file) finds = absurd finds
+ran_told files hosts kept program (Instrument file) finds = absurd finds
+ran_told files hosts kept program (Races run) finds = absurd finds
+ran_told files hosts kept program (Replay run) finds = run_reportable files hosts kept program run finds.1
+
+raced_told : (files : FilesSeen) (hosts : HostTable) (kept : RunRecord) (races : List Race) (program : Program) (job : Job) → FindsIn files hosts kept (Raced races) job program
+    → CanBeTold (Raced races) kept
+raced_told files hosts kept races program (Check file) finds = absurd finds
+raced_told files hosts kept races program (Instrument file) finds = absurd finds
+raced_told files hosts kept races program (Replay run) finds = absurd finds
+raced_told files hosts kept races program (Races run) finds = ((run_reportable files hosts kept program run finds.1).distinct, finds.2)
+
+pub found_told : (files : FilesSeen) (hosts : HostTable) (asked : Option Job) (kept : RunRecord) (found : Outcome) → HasCause files hosts asked kept found
+    → CanBeTold found kept
+found_told files hosts asked kept Usage cause = tt
+found_told files hosts asked kept (FileFault of) cause = tt
+found_told files hosts asked kept (TooLong of) cause = tt
+found_told files hosts asked kept (NotRead read_fault) cause = tt
+found_told files hosts asked kept (NotVerified rule at) cause = tt
+found_told files hosts asked kept (Accepted functions instructions) cause = tt
+found_told files hosts asked kept (Instrumented target) cause = tt
+found_told files hosts asked kept Ran cause = ran_told files hosts kept cause.holds.program cause.job cause.holds.holds
+found_told files hosts asked kept (Raced races) cause = raced_told files hosts kept races cause.holds.program cause.job cause.holds.holds
+
+-- ---- what a call leaves for a record is empty or right
+in_ran : (files : FilesSeen) (hosts : HostTable) (asked : Option Job) (kept : RunRecord) (of : OfJob files hosts asked kept Ran) → IsEmptyOrRight files hosts asked kept
+in_ran files hosts asked kept of = inr (record {
+  job = of.job;
+  is = of.is;
+  text = of.text;
+  read = of.read;
+  holds = record { program = of.holds.program; reads = of.holds.reads; holds = by_job of.job of.holds.holds };
+})
+  where
+    by_job : (job : Job) → FindsIn files hosts kept Ran job of.holds.program → IsAccepted of.holds.program hosts × IsOfRun files hosts kept of.holds.program job
+    by_job (Check file) finds = absurd finds
+    by_job (Instrument file) finds = absurd finds
+    by_job (Races run) finds = absurd finds
+    by_job (Replay run) finds = finds
+
+in_raced : (files : FilesSeen) (hosts : HostTable) (asked : Option Job) (kept : RunRecord) (races : List Race) (of : OfJob files hosts asked kept (Raced races))
+    → IsEmptyOrRight files hosts asked kept
+in_raced files hosts asked kept races of = inr (record {
+  job = of.job;
+  is = of.is;
+  text = of.text;
+  read = of.read;
+  holds = record { program = of.holds.program; reads = of.holds.reads; holds = by_job of.job of.holds.holds };
+})
+  where
+    by_job : (job : Job) → FindsIn files hosts kept (Raced races) job of.holds.program → IsAccepted of.holds.program hosts × IsOfRun files hosts kept of.holds.program job
+    by_job (Check file) finds = absurd finds
+    by_job (Instrument file) finds = absurd finds
+    by_job (Replay run) finds = absurd finds
+    by_job (Races run) finds = (finds.0, finds.1)
+
+none_in_check : (files : FilesSeen) (hosts : HostTable) (kept : RunRecord) (functions instructions : ℕ) (job : Job) (program : Program)
+    → FindsIn files hosts kept (Accepted functions instructions) job program → kept ≡ empty_record
+none_in_check files hosts kept functions instructions (Check file) program finds = finds.3
+none_in_check files hosts kept functions instructions (Instrument file) program finds = absurd finds
+none_in_check files hosts kept functions instructions (Replay run) program finds = absurd finds
+none_in_check files hosts kept functions instructions (Races run) program finds = absurd finds
+
+none_in_instrument : (files : FilesSeen) (hosts : HostTable) (kept : RunRecord) (target : Target) (job : Job) (program : Program)
+    → FindsIn files hosts kept (Instrumented target) job program → kept ≡ empty_record
+none_in_instrument files hosts kept target (Check file) program finds = absurd finds
+none_in_instrument files hosts kept target (Instrument file) program finds = finds.2
+none_in_instrument files hosts kept target (Replay run) program finds = absurd finds
+none_in_instrument files hosts kept target (Races run) program finds = absurd finds
+
+pub left : (files : FilesSeen) (hosts : HostTable) (asked : Option Job) (kept : RunRecord) (found : Outcome) → HasCause files hosts asked kept found
+    → IsEmptyOrRight files hosts asked kept
+left files hosts asked kept Usage cause = inl cause.1
+left files hosts asked kept (FileFault role.Program) cause = inl cause.1
+left files hosts asked kept (FileFault role.Input) cause = inl cause.holds.holds.2
+left files hosts asked kept (TooLong role.Program) cause = inl cause.1
+left files hosts asked kept (TooLong role.Input) cause = inl cause.holds.holds.2
+left files hosts asked kept (NotRead read_fault) cause = inl cause.1
+left files hosts asked kept (NotVerified rule at) cause = inl cause.holds.holds.1
+left files hosts asked kept (Accepted functions instructions) cause =
+    inl (none_in_check files hosts kept functions instructions cause.job cause.holds.program cause.holds.holds)
+left files hosts asked kept (Instrumented target) cause = inl (none_in_instrument files hosts kept target cause.job cause.holds.program cause.holds.holds)
+left files hosts asked kept Ran cause = in_ran files hosts asked kept cause
+left files hosts asked kept (Raced races) cause = in_raced files hosts asked kept races cause

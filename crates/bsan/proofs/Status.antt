@@ -1,43 +1,48 @@
 -- From the answer of the top call back to what was found.
-use Rattle.std.proofs.Common.{◌≡◌, ◌<◌, ◌⊎◌, ℕ, Bool, true, false, not, List, if◌then◌else◌, refl, sym, ap, ◌∙◌, arith, inl, inr}
+use Rattle.std.proofs.Common.{zero, suc, ◌≡◌, ◌≢◌, ◌<◌, ◌≤◌, ◌==◌, ◌||◌, ◌⊎◌, ℕ, Bool, true, false, true≢false, not, List, [], length, Option, Some, None, if◌then◌else◌, nat_le, refl, sym, ap, subst, ◌∙◌, arith, inl, inr}
 use Rattle.std.specs.List.{list_any}
-use Rattle.command_words.specs.Jobs.{Job}
-use Rattle.command_words.specs.Jobs.Job.{Check, Instrument, Replay}
 use Rattle.std.specs.Option.{IsSomeAnd}
-use Rattle.std.specs.Prelude.{Option, Some, None}
+use Rattle.std.specs.Io.KnownBytes.{Appends}
+use Rattle.std.proofs.lemmas.Bool.{leb-true}
+use Rattle.command_words.specs.Jobs.{Job}
 use Rattle.ir_ast.specs.declared.hosts.HostTable.{HostTable}
 use Rattle.ir_ast.specs.declared.program.Program.{Program}
 use Rattle.ir_text.specs.Bytes.{most_bytes}
 use Rattle.target_code.specs.Texts.{target_text}
 use Rattle.target_code.specs.declared.line.Target.{Target}
 use Rattle.history.specs.declared.record.RunRecord.{RunRecord}
-use Rattle.history.specs.Records.{has_violation}
+use Rattle.history.specs.Records.{empty_record, has_violation}
+use Rattle.ir_rules.specs.Rules.{IsAccepted}
+use Rattle.race_check.specs.Text.{race_text}
+use Rattle.race_check.specs.declared.race.Race.{Race}
 use Rattle.report.specs.Report.{status_of, any_end, is_no_memory, is_limit, is_trap}
-use Rattle.bsan.specs.Words.{Text, OfInputFile}
+use Rattle.bsan.specs.Words.{Text, input_in}
 use Rattle.bsan.specs.Seen.{FilesSeen, SinkSeen, Failed, WasTooLong, IsFault, Puts}
 use Rattle.bsan.specs.Seen.Puts.{whole, failed, no_memory}
 use Rattle.bsan.specs.Answer.{OfFile, OfText, OfProgram, OfJob, HasCause, Answers, text_for, status_for}
-use Rattle.bsan.specs.Causes.{IsRefused, IsUnread, HasUnreadInput, ReadCause, RanWhole, RanWith, AcceptedWhole, InstrumentedWhole, RunCause, has_violations}
+use Rattle.bsan.specs.Causes.{IsCutShort, IsRefused, IsBrokenFirst, IsUnread, HasUnreadInput, ReadCause, TellsRun, RanWhole, RanWith, RacedWhole, AcceptedWhole, InstrumentedWhole, RunCause, PutNothing, MemoryCause, LeavesNone, has_violations}
+use Rattle.bsan.proofs.Reportable.{left}
 use Rattle.bsan.specs.declared.outcome.Role.TheVariants as role
 use Rattle.bsan.specs.declared.outcome.Outcome.{Outcome}
-use Rattle.bsan.specs.declared.outcome.Outcome.TheVariants.{Usage, FileFault, TooLong, NotRead, NotVerified, Accepted, Instrumented, Ran}
+use Rattle.bsan.specs.declared.outcome.Outcome.TheVariants.{Usage, FileFault, TooLong, NotRead, NotVerified, Accepted, Instrumented, Ran, Raced}
 
 -- ---- the status of a record, by the ends of its threads and by its violations
 abbrev ranked : Bool → Bool → Bool → Bool → ℕ
 ranked memory limit trap violation = if memory then 9 else (if limit then 6 else (if trap then 5 else (if violation then 1 else 0)))
 
--- a run has none of the statuses 2, 3, 4 and 7
-not_3_or_7 : (a b c d : Bool) (n : ℕ) → n ≡ ranked a b c d → (n ≡ 3) ⊎ (n ≡ 7) → ⊥
-not_3_or_7 true b c d n is (inl e) = omega arith
-not_3_or_7 true b c d n is (inr e) = omega arith
-not_3_or_7 false true c d n is (inl e) = omega arith
-not_3_or_7 false true c d n is (inr e) = omega arith
-not_3_or_7 false false true d n is (inl e) = omega arith
-not_3_or_7 false false true d n is (inr e) = omega arith
-not_3_or_7 false false false true n is (inl e) = omega arith
-not_3_or_7 false false false true n is (inr e) = omega arith
-not_3_or_7 false false false false n is (inl e) = omega arith
-not_3_or_7 false false false false n is (inr e) = omega arith
+-- the statuses of a run
+abbrev is_run_status : ℕ → Bool
+is_run_status n = n == 0 || n == 1 || n == 5 || n == 6 || n == 9
+
+ranked_is : (a b c d : Bool) → is_run_status (ranked a b c d) ≡ true
+ranked_is true b c d = refl
+ranked_is false true c d = refl
+ranked_is false false true d = refl
+ranked_is false false false true = refl
+ranked_is false false false false = refl
+
+run_status : (kept : RunRecord) → is_run_status (status_of kept) ≡ true
+run_status kept = ranked_is (any_end is_no_memory kept) (any_end is_limit kept) (any_end is_trap kept) (has_violations kept)
 
 -- each of its statuses tells what is in the record
 none_at_0 : (a b c d : Bool) (n : ℕ) → n ≡ 0 → n ≡ ranked a b c d → not d ≡ true
@@ -68,184 +73,345 @@ limit_at_6 false false true d n value is = absurd (omega arith)
 limit_at_6 false false false true n value is = absurd (omega arith)
 limit_at_6 false false false false n value is = absurd (omega arith)
 
+memory_at_9 : (a b c d : Bool) (n : ℕ) → n ≡ 9 → n ≡ ranked a b c d → a ≡ true
+memory_at_9 true b c d n value is = refl
+memory_at_9 false true c d n value is = absurd (omega arith)
+memory_at_9 false false true d n value is = absurd (omega arith)
+memory_at_9 false false false true n value is = absurd (omega arith)
+memory_at_9 false false false false n value is = absurd (omega arith)
+
+-- ---- the status of the races of a record
+-- 10, where there is a race and the run's own status is 0 or 1
+record IsTen (n status count : ℕ) : Type 0 where
+  pub ten : n ≡ 10
+  pub low : status ≤ 1
+  pub some : 0 < count
+
+raced_as : (n status count : ℕ) → n ≡ (if nat_le status 1 then (if count == 0 then status else 10) else status) → (n ≡ status) ⊎ IsTen n status count
+raced_as n status count is = by_tests (nat_le status 1) (count == 0) refl refl is
+  where
+    some : (count : ℕ) → (count == 0) ≡ false → 0 < count
+    some zero none = absurd cc
+    some (suc count) none = omega arith
+
+    by_tests : (low none : Bool) → nat_le status 1 ≡ low → (count == 0) ≡ none → n ≡ (if low then (if none then status else 10) else status)
+        → (n ≡ status) ⊎ IsTen n status count
+    by_tests false none lows nones is = inl is
+    by_tests true true lows nones is = inl is
+    by_tests true false lows nones is = inr (record { ten = is; low = leb-true status 1 lows; some = some count nones })
+
+-- what is told of a run has the run's own status, or 10
+told_as : (found : Outcome) (kept : RunRecord) (n : ℕ) → TellsRun found → n ≡ status_for found kept → (n ≡ status_of kept) ⊎ (n ≡ 10)
+told_as Usage kept n tells is = absurd tells
+told_as (FileFault of) kept n tells is = absurd tells
+told_as (TooLong of) kept n tells is = absurd tells
+told_as (NotRead read_fault) kept n tells is = absurd tells
+told_as (NotVerified rule at) kept n tells is = absurd tells
+told_as (Accepted functions instructions) kept n tells is = absurd tells
+told_as (Instrumented target) kept n tells is = absurd tells
+told_as Ran kept n tells is = inl is
+told_as (Raced races) kept n tells is = elim (raced_as n (status_of kept) (length races) is) [ inl own ↦ inl own | inr ten ↦ inr ten.ten ]
+
+-- the run's own, where it is not 10
+told_own : (found : Outcome) (kept : RunRecord) (n : ℕ) → TellsRun found → n ≡ status_for found kept → n ≢ 10 → n ≡ status_of kept
+told_own found kept n tells is other = elim (told_as found kept n tells is) [ inl own ↦ own | inr ten ↦ absurd (other ten) ]
+
+-- and so none that is no run's
+not_told : (found : Outcome) (kept : RunRecord) (n : ℕ) → TellsRun found → n ≡ status_for found kept → n ≢ 10 → is_run_status n ≡ false → ⊥
+not_told found kept n tells is other unlike =
+    let own = told_own found kept n tells is other in
+    true≢false (sym (run_status kept) ∙ ap is_run_status (sym own) ∙ unlike)
+
 -- one put that answers a status that is neither 8 nor 9 put the text of this status
-put_whole : (sink : SinkSeen) (text : List ℕ) (status answer n : ℕ) → Puts sink text status answer → answer ≡ n → n < 8 → n ≡ status
-put_whole sink text status answer n (whole is appends) same low = sym same ∙ is
-put_whole sink text status answer n (failed is rose prefix) same low = absurd (omega arith)
-put_whole sink text status answer n (no_memory is keeps) same low = absurd (omega arith)
+put_whole : (sink : SinkSeen) (text : List ℕ) (status answer n : ℕ) → Puts sink text status answer → answer ≡ n → (IsCutShort n → ⊥)
+    → (n ≡ status) × Appends sink.taken_before sink.taken_after text
+put_whole sink text status answer n (whole is appends) same uncut = (sym same ∙ is, appends)
+put_whole sink text status answer n (failed is rose prefix) same uncut = absurd (uncut (inl (sym same ∙ is)))
+put_whole sink text status answer n (no_memory is keeps) same uncut = absurd (uncut (inr (sym same ∙ is)))
 
-small : (n : ℕ) → (n ≡ 1) ⊎ (n ≡ 5) ⊎ (n ≡ 6) → n < 8
-small n (inl e) = omega (arith, e)
-small n (inr (inl e)) = omega (arith, e)
-small n (inr (inr e)) = omega (arith, e)
-
--- 1, 5 and 6 are statuses of runs alone
-of_runs : (n status : ℕ) → n ≡ status → (n ≡ 1) ⊎ (n ≡ 5) ⊎ (n ≡ 6) → (status ≡ 1) ⊎ (status ≡ 5) ⊎ (status ≡ 6)
-of_runs n status is (inl e) = inl (sym is ∙ e)
-of_runs n status is (inr (inl e)) = inr (inl (sym is ∙ e))
-of_runs n status is (inr (inr e)) = inr (inr (sym is ∙ e))
-
-differs : (status : ℕ) → (status ≡ 1 → ⊥) → (status ≡ 5 → ⊥) → (status ≡ 6 → ⊥) → (status ≡ 1) ⊎ (status ≡ 5) ⊎ (status ≡ 6) → ⊥
-differs status a b c (inl e) = a e
-differs status a b c (inr (inl e)) = b e
-differs status a b c (inr (inr e)) = c e
+-- a status below 8 is not cut short
+uncut_low : (n : ℕ) → n < 8 → IsCutShort n → ⊥
+uncut_low n low (inl is) = omega (arith, low, is)
+uncut_low n low (inr is) = omega (arith, low, is)
 
 -- 3: the text was refused
-pub unread : (files : FilesSeen) (hosts : HostTable) (sink : SinkSeen) (words : List Text) (kept : RunRecord) (answer : ℕ)
-    → Answers files hosts sink words kept answer → answer ≡ 3 → OfText files words (λ job text. IsRefused text)
-unread files hosts sink words kept answer (inr out) is = absurd (let nine = out.status in omega arith)
-unread files hosts sink words kept answer (inl told) is = by_found told.found told.cause told.puts
+pub unread : (files : FilesSeen) (hosts : HostTable) (sink : SinkSeen) (asked : Option Job) (kept : RunRecord) (answer : ℕ)
+    → Answers files hosts sink asked kept answer → answer ≡ 3 → OfText files asked (λ job text. IsRefused text)
+unread files hosts sink asked kept answer (inr out) is = absurd (let nine = out.status in omega arith)
+unread files hosts sink asked kept answer (inl told) is =
+    by_found told.found told.cause (put_whole sink _ (status_for told.found kept) answer 3 told.puts is (uncut_low 3 (omega arith))).0
   where
-    other : (text : List ℕ) (status : ℕ) → Puts sink text status answer → 3 ≡ status
-    other text status puts = put_whole sink text status answer 3 puts is (omega arith)
-
-    by_found : (found : Outcome) → HasCause files hosts words kept found → Puts sink (text_for found kept) (status_for found kept) answer
-        → OfText files words (λ job text. IsRefused text)
-    by_found Usage cause puts = absurd (let e = other _ 2 puts in omega arith)
-    by_found (FileFault of) cause puts = absurd (let e = other _ 7 puts in omega arith)
-    by_found (TooLong of) cause puts = absurd (let e = other _ 7 puts in omega arith)
-    by_found (NotRead read_fault) cause puts = record {
+    by_found : (found : Outcome) → HasCause files hosts asked kept found → 3 ≡ status_for found kept → OfText files asked (λ job text. IsRefused text)
+    by_found Usage cause e = absurd (omega (arith, e))
+    by_found (FileFault of) cause e = absurd (omega (arith, e))
+    by_found (TooLong of) cause e = absurd (omega (arith, e))
+    by_found (NotRead read_fault) cause e = record {
       job = cause.0.job;
-      asked = cause.0.asked;
+      is = cause.0.is;
       text = cause.0.text;
       read = cause.0.read;
       holds = (read_fault, cause.0.holds);
     }
-    by_found (NotVerified rule at) cause puts = absurd (let e = other _ 4 puts in omega arith)
-    by_found (Accepted functions instructions) cause puts = absurd (let e = other _ 0 puts in omega arith)
-    by_found (Instrumented target) cause puts = absurd (let e = other _ 0 puts in omega arith)
-    by_found Ran cause puts =
-        absurd (not_3_or_7 (any_end is_no_memory kept) (any_end is_limit kept) (any_end is_trap kept) (has_violations kept)
-        3 (other _ (status_of kept) puts) (inl refl))
+    by_found (NotVerified rule at) cause e = absurd (omega (arith, e))
+    by_found (Accepted functions instructions) cause e = absurd (omega (arith, e))
+    by_found (Instrumented target) cause e = absurd (omega (arith, e))
+    by_found Ran cause e = absurd (not_told Ran kept 3 tt e (λ ten. omega (arith, ten)) refl)
+    by_found (Raced races) cause e = absurd (not_told (Raced races) kept 3 tt e (λ ten. omega (arith, ten)) refl)
+
+-- 4: a rule is broken in the program
+pub unverified : (files : FilesSeen) (hosts : HostTable) (sink : SinkSeen) (asked : Option Job) (kept : RunRecord) (answer : ℕ)
+    → Answers files hosts sink asked kept answer → answer ≡ 4 → OfText files asked (λ job text. OfProgram (IsBrokenFirst hosts) text)
+unverified files hosts sink asked kept answer (inr out) is = absurd (let nine = out.status in omega arith)
+unverified files hosts sink asked kept answer (inl told) is =
+    by_found told.found told.cause (put_whole sink _ (status_for told.found kept) answer 4 told.puts is (uncut_low 4 (omega arith))).0
+  where
+    by_found : (found : Outcome) → HasCause files hosts asked kept found → 4 ≡ status_for found kept
+        → OfText files asked (λ job text. OfProgram (IsBrokenFirst hosts) text)
+    by_found Usage cause e = absurd (omega (arith, e))
+    by_found (FileFault of) cause e = absurd (omega (arith, e))
+    by_found (TooLong of) cause e = absurd (omega (arith, e))
+    by_found (NotRead read_fault) cause e = absurd (omega (arith, e))
+    by_found (NotVerified rule at) cause e = record {
+      job = cause.job;
+      is = cause.is;
+      text = cause.text;
+      read = cause.read;
+      holds = record { program = cause.holds.program; reads = cause.holds.reads; holds = (rule, at, cause.holds.holds.0) };
+    }
+    by_found (Accepted functions instructions) cause e = absurd (omega (arith, e))
+    by_found (Instrumented target) cause e = absurd (omega (arith, e))
+    by_found Ran cause e = absurd (not_told Ran kept 4 tt e (λ ten. omega (arith, ten)) refl)
+    by_found (Raced races) cause e = absurd (not_told (Raced races) kept 4 tt e (λ ten. omega (arith, ten)) refl)
 
 -- what holds of an input's file, where another holds
-of_input : (P Q : Text → Type 0) (job : Job) → ((file : Text) → P file → Q file) → OfInputFile P job → OfInputFile Q job
-of_input P Q (Check file) implies of = absurd of
-of_input P Q (Instrument file) implies of = absurd of
-of_input P Q (Replay file schedule settings) implies of = by_file settings.input of
-  where
-    by_file : (file : Option Text) → IsSomeAnd file P → IsSomeAnd file Q
-    by_file None is = absurd is
-    by_file (Some name) is = implies name is
+of_input : (P Q : Text → Type 0) (file : Option Text) → ((name : Text) → P name → Q name) → IsSomeAnd file P → IsSomeAnd file Q
+of_input P Q None implies is = absurd is
+of_input P Q (Some name) implies is = implies name is
 
 -- 7: a file was not read
-pub read_cause : (files : FilesSeen) (hosts : HostTable) (sink : SinkSeen) (words : List Text) (kept : RunRecord) (answer : ℕ)
-    → Answers files hosts sink words kept answer → ReadCause files hosts words answer
-read_cause files hosts sink words kept answer (inr out) is = absurd (let nine = out.status in omega arith)
-read_cause files hosts sink words kept answer (inl told) is = by_found told.found told.cause told.puts
+pub read_cause : (files : FilesSeen) (hosts : HostTable) (sink : SinkSeen) (asked : Option Job) (kept : RunRecord) (answer : ℕ)
+    → Answers files hosts sink asked kept answer → ReadCause files hosts asked answer
+read_cause files hosts sink asked kept answer (inr out) is = absurd (let nine = out.status in omega arith)
+read_cause files hosts sink asked kept answer (inl told) is =
+    by_found told.found told.cause (put_whole sink _ (status_for told.found kept) answer 7 told.puts is (uncut_low 7 (omega arith))).0
   where
-    other : (text : List ℕ) (status : ℕ) → Puts sink text status answer → 7 ≡ status
-    other text status puts = put_whole sink text status answer 7 puts is (omega arith)
-
-    by_found : (found : Outcome) → HasCause files hosts words kept found → Puts sink (text_for found kept) (status_for found kept) answer
-        → IsUnread files words ⊎ OfText files words (λ job text. OfProgram (HasUnreadInput files hosts job) text)
-    by_found Usage cause puts = absurd (let e = other _ 2 puts in omega arith)
-    by_found (FileFault role.Program) cause puts = inl (record { job = cause.0.job; asked = cause.0.asked; holds = inl cause.0.holds })
-    by_found (FileFault role.Input) cause puts = inr (record {
-      job = cause.job;
-      asked = cause.asked;
-      text = cause.text;
-      read = cause.read;
-      holds = record {
-        program = cause.holds.program;
-        reads = cause.holds.reads;
-        holds = record {
-          accepted = cause.holds.holds.0;
-          unread = of_input (λ file. Failed files file) (λ file. IsFault files file) cause.job (λ file failed. inl failed) cause.holds.holds.1;
-        };
-      };
-    })
-    by_found (TooLong role.Program) cause puts = inl (record { job = cause.0.job; asked = cause.0.asked; holds = inr cause.0.holds })
-    by_found (TooLong role.Input) cause puts = inr (record {
-      job = cause.job;
-      asked = cause.asked;
-      text = cause.text;
-      read = cause.read;
-      holds = record {
-        program = cause.holds.program;
-        reads = cause.holds.reads;
-        holds = record {
-          accepted = cause.holds.holds.0;
-          unread = of_input (λ file. WasTooLong files file most_bytes) (λ file. IsFault files file) cause.job (λ file long. inr long) cause.holds.holds.1;
-        };
-      };
-    })
-    by_found (NotRead read_fault) cause puts = absurd (let e = other _ 3 puts in omega arith)
-    by_found (NotVerified rule at) cause puts = absurd (let e = other _ 4 puts in omega arith)
-    by_found (Accepted functions instructions) cause puts = absurd (let e = other _ 0 puts in omega arith)
-    by_found (Instrumented target) cause puts = absurd (let e = other _ 0 puts in omega arith)
-    by_found Ran cause puts =
-        absurd (not_3_or_7 (any_end is_no_memory kept) (any_end is_limit kept) (any_end is_trap kept) (has_violations kept)
-        7 (other _ (status_of kept) puts) (inr refl))
-
--- 0, 1, 5 and 6: a run whose whole report was put; 0 also: a program was accepted, or its target code made
-pub run_cause : (files : FilesSeen) (hosts : HostTable) (sink : SinkSeen) (words : List Text) (kept : RunRecord) (answer : ℕ)
-    → Answers files hosts sink words kept answer → RunCause files hosts sink words kept answer
-run_cause files hosts sink words kept answer (inr out) = record {
-  clean = λ is. absurd (let nine = out.status in omega arith);
-  violated = λ is. absurd (let nine = out.status in omega arith);
-  trapped = λ is. absurd (let nine = out.status in omega arith);
-  limited = λ is. absurd (let nine = out.status in omega arith);
-}
-run_cause files hosts sink words kept answer (inl told) = record {
-  clean = λ is. clean told.found told.cause told.puts is;
-  violated = λ is. with_run 1 (has_violations kept) told.found told.cause told.puts is (inl refl)
-      (λ same. some_at_1 (any_end is_no_memory kept) (any_end is_limit kept) (any_end is_trap kept) (has_violations kept) 1 refl same);
-  trapped = λ is. with_run 5 (any_end is_trap kept) told.found told.cause told.puts is (inr (inl refl))
-      (λ same. trap_at_5 (any_end is_no_memory kept) (any_end is_limit kept) (any_end is_trap kept) (has_violations kept) 5 refl same);
-  limited = λ is. with_run 6 (any_end is_limit kept) told.found told.cause told.puts is (inr (inr refl))
-      (λ same. limit_at_6 (any_end is_no_memory kept) (any_end is_limit kept) (any_end is_trap kept) (has_violations kept) 6 refl same);
-}
-  where
-    ran : OfJob files hosts words kept Ran → Puts sink (text_for Ran kept) (status_for Ran kept) answer
-        → answer < 8 → RanWhole files hosts sink words kept answer
-    ran cause (whole is appends) low = record { right = cause; status = is; text = appends }
-    ran cause (failed is rose prefix) low = absurd (omega arith)
-    ran cause (no_memory is keeps) low = absurd (omega arith)
-
-    accepted : (functions instructions : ℕ) → OfJob files hosts words kept (Accepted functions instructions)
-        → Puts sink (text_for (Accepted functions instructions) kept) 0 answer → answer < 8 → AcceptedWhole files hosts sink words kept
-    accepted functions instructions cause (whole is appends) low =
-        record { functions = functions; instructions = instructions; cause = cause; text = appends }
-    accepted functions instructions cause (failed is rose prefix) low = absurd (omega arith)
-    accepted functions instructions cause (no_memory is keeps) low = absurd (omega arith)
-
-    instrumented : (target : Target) → OfJob files hosts words kept (Instrumented target)
-        → Puts sink (target_text target) 0 answer → answer < 8 → InstrumentedWhole files hosts sink words kept
-    instrumented target cause (whole is appends) low = record { target = target; cause = cause; text = appends }
-    instrumented target cause (failed is rose prefix) low = absurd (omega arith)
-    instrumented target cause (no_memory is keeps) low = absurd (omega arith)
-
-    other : (text : List ℕ) (status n : ℕ) → Puts sink text status answer → answer ≡ n → n < 8 → n ≡ status
-    other text status n puts is low = put_whole sink text status answer n puts is low
-
-    clean : (found : Outcome) → HasCause files hosts words kept found → Puts sink (text_for found kept) (status_for found kept) answer
-        → answer ≡ 0 → RanWith files hosts sink words kept answer (not (has_violations kept)) ⊎ AcceptedWhole files hosts sink words kept
-        ⊎ InstrumentedWhole files hosts sink words kept
-    clean Usage cause puts is = absurd (let e = other _ 2 0 puts is (omega arith) in omega arith)
-    clean (FileFault of) cause puts is = absurd (let e = other _ 7 0 puts is (omega arith) in omega arith)
-    clean (TooLong of) cause puts is = absurd (let e = other _ 7 0 puts is (omega arith) in omega arith)
-    clean (NotRead read_fault) cause puts is = absurd (let e = other _ 3 0 puts is (omega arith) in omega arith)
-    clean (NotVerified rule at) cause puts is = absurd (let e = other _ 4 0 puts is (omega arith) in omega arith)
-    clean (Accepted functions instructions) cause puts is = inr (inl (accepted functions instructions cause puts (omega arith)))
-    clean (Instrumented target) cause puts is = inr (inr (instrumented target cause puts (omega arith)))
-    clean Ran cause puts is = inl (record {
-      run = ran cause puts (omega arith);
-      shown = none_at_0 (any_end is_no_memory kept) (any_end is_limit kept) (any_end is_trap kept) (has_violations kept)
-          0 refl (other _ (status_of kept) 0 puts is (omega arith));
-    })
-
-    with_run : (n : ℕ) (holds : Bool) (found : Outcome) → HasCause files hosts words kept found
-        → Puts sink (text_for found kept) (status_for found kept) answer
-        → answer ≡ n → (n ≡ 1) ⊎ (n ≡ 5) ⊎ (n ≡ 6) → (n ≡ status_of kept → holds ≡ true) → RanWith files hosts sink words kept answer holds
-    with_run n holds Usage cause puts is one shows = absurd (differs 2 (λ e. omega arith) (λ e. omega arith) (λ e. omega arith) (of_runs n 2 (other _ 2 n puts is (small n one)) one))
-    with_run n holds (FileFault of) cause puts is one shows = absurd (differs 7 (λ e. omega arith) (λ e. omega arith) (λ e. omega arith) (of_runs n 7 (other _ 7 n puts is (small n one)) one))
-    with_run n holds (TooLong of) cause puts is one shows = absurd (differs 7 (λ e. omega arith) (λ e. omega arith) (λ e. omega arith) (of_runs n 7 (other _ 7 n puts is (small n one)) one))
-    with_run n holds (NotRead read_fault) cause puts is one shows = absurd (differs 3 (λ e. omega arith) (λ e. omega arith) (λ e. omega arith) (of_runs n 3 (other _ 3 n puts is (small n one)) one))
-    with_run n holds (NotVerified rule at) cause puts is one shows = absurd (differs 4 (λ e. omega arith) (λ e. omega arith) (λ e. omega arith) (of_runs n 4 (other _ 4 n puts is (small n one)) one))
-    with_run n holds (Accepted functions instructions) cause puts is one shows = absurd (differs 0 (λ e. omega arith) (λ e. omega arith) (λ e. omega arith) (of_runs n 0 (other _ 0 n puts is (small n one)) one))
-    with_run n holds (Instrumented target) cause puts is one shows = absurd (differs 0 (λ e. omega arith) (λ e. omega arith) (λ e. omega arith) (of_runs n 0 (other _ 0 n puts is (small n one)) one))
-    with_run n holds Ran cause puts is one shows = record {
-      run = ran cause puts (let low = small n one in omega (arith, is, low));
-      shown = shows (other _ (status_of kept) n puts is (small n one));
+    with_input : (found : Outcome) (of : OfJob files hosts asked kept found) → IsAccepted of.holds.program hosts
+        → IsSomeAnd (input_in of.job) (λ file. IsFault files file) → OfText files asked (λ job text. OfProgram (HasUnreadInput files hosts job) text)
+    with_input found of accepted unread = record {
+      job = of.job;
+      is = of.is;
+      text = of.text;
+      read = of.read;
+      holds = record { program = of.holds.program; reads = of.holds.reads; holds = record { accepted = accepted; unread = unread } };
     }
+
+    by_found : (found : Outcome) → HasCause files hosts asked kept found → 7 ≡ status_for found kept
+        → IsUnread files asked ⊎ OfText files asked (λ job text. OfProgram (HasUnreadInput files hosts job) text)
+    by_found Usage cause e = absurd (omega (arith, e))
+    by_found (FileFault role.Program) cause e = inl (record { job = cause.0.job; is = cause.0.is; holds = inl cause.0.holds })
+    by_found (FileFault role.Input) cause e =
+        inr (with_input (FileFault role.Input) cause cause.holds.holds.0
+        (of_input (λ file. Failed files file) (λ file. IsFault files file) (input_in cause.job) (λ file failed. inl failed) cause.holds.holds.1))
+    by_found (TooLong role.Program) cause e = inl (record { job = cause.0.job; is = cause.0.is; holds = inr cause.0.holds })
+    by_found (TooLong role.Input) cause e =
+        inr (with_input (TooLong role.Input) cause cause.holds.holds.0
+        (of_input (λ file. WasTooLong files file most_bytes) (λ file. IsFault files file) (input_in cause.job) (λ file long. inr long) cause.holds.holds.1))
+    by_found (NotRead read_fault) cause e = absurd (omega (arith, e))
+    by_found (NotVerified rule at) cause e = absurd (omega (arith, e))
+    by_found (Accepted functions instructions) cause e = absurd (omega (arith, e))
+    by_found (Instrumented target) cause e = absurd (omega (arith, e))
+    by_found Ran cause e = absurd (not_told Ran kept 7 tt e (λ ten. omega (arith, ten)) refl)
+    by_found (Raced races) cause e = absurd (not_told (Raced races) kept 7 tt e (λ ten. omega (arith, ten)) refl)
+
+-- 2, 3, 4 and 7: no record is left
+pub no_record : (files : FilesSeen) (hosts : HostTable) (sink : SinkSeen) (asked : Option Job) (kept : RunRecord) (answer : ℕ)
+    → Answers files hosts sink asked kept answer → LeavesNone kept answer
+no_record files hosts sink asked kept answer (inr out) is = absurd (nine out.status is)
+  where
+    nine : answer ≡ 9 → (answer ≡ 2) ⊎ (answer ≡ 3) ⊎ (answer ≡ 4) ⊎ (answer ≡ 7) → ⊥
+    nine at (inl e) = omega (arith, at, e)
+    nine at (inr (inl e)) = omega (arith, at, e)
+    nine at (inr (inr (inl e))) = omega (arith, at, e)
+    nine at (inr (inr (inr e))) = omega (arith, at, e)
+no_record files hosts sink asked kept answer (inl told) is = by_status is
+  where
+    by_found : (n : ℕ) (found : Outcome) → HasCause files hosts asked kept found → n ≡ status_for found kept → n ≢ 0 → n ≢ 10 → is_run_status n ≡ false
+        → kept ≡ empty_record
+    by_found n Usage cause e low other unlike = cause.1
+    by_found n (FileFault role.Program) cause e low other unlike = cause.1
+    by_found n (FileFault role.Input) cause e low other unlike = cause.holds.holds.2
+    by_found n (TooLong role.Program) cause e low other unlike = cause.1
+    by_found n (TooLong role.Input) cause e low other unlike = cause.holds.holds.2
+    by_found n (NotRead read_fault) cause e low other unlike = cause.1
+    by_found n (NotVerified rule at) cause e low other unlike = cause.holds.holds.1
+    by_found n (Accepted functions instructions) cause e low other unlike = absurd (low e)
+    by_found n (Instrumented target) cause e low other unlike = absurd (low e)
+    by_found n Ran cause e low other unlike = absurd (not_told Ran kept n tt e other unlike)
+    by_found n (Raced races) cause e low other unlike = absurd (not_told (Raced races) kept n tt e other unlike)
+
+    at : (n : ℕ) → answer ≡ n → n < 8 → n ≢ 0 → is_run_status n ≡ false → kept ≡ empty_record
+    at n e small some unlike =
+        by_found n told.found told.cause (put_whole sink _ (status_for told.found kept) answer n told.puts e (uncut_low n small)).0 some
+        (λ ten. omega (arith, small, ten)) unlike
+
+    by_status : (answer ≡ 2) ⊎ (answer ≡ 3) ⊎ (answer ≡ 4) ⊎ (answer ≡ 7) → kept ≡ empty_record
+    by_status (inl e) = at 2 e (omega arith) (λ z. omega (arith, z)) refl
+    by_status (inr (inl e)) = at 3 e (omega arith) (λ z. omega (arith, z)) refl
+    by_status (inr (inr (inl e))) = at 4 e (omega arith) (λ z. omega (arith, z)) refl
+    by_status (inr (inr (inr e))) = at 7 e (omega arith) (λ z. omega (arith, z)) refl
+
+-- ---- statuses of runs
+-- a run, of which the whole text was put
+whole_run : (files : FilesSeen) (hosts : HostTable) (sink : SinkSeen) (asked : Option Job) (kept : RunRecord) (answer : ℕ) (found : Outcome)
+    → TellsRun found → OfJob files hosts asked kept found → answer ≡ status_for found kept → Appends sink.taken_before sink.taken_after (text_for found kept)
+    → RanWhole files hosts sink asked kept answer
+whole_run files hosts sink asked kept answer found tells cause status text =
+    record { found = found; tells = tells; cause = cause; status = status; text = text }
+
+-- 1, 5 and 6: a run of which the whole text was put, and what is in its record
+pub run_with : (files : FilesSeen) (hosts : HostTable) (sink : SinkSeen) (asked : Option Job) (kept : RunRecord) (answer n : ℕ) (holds : Bool)
+    → Answers files hosts sink asked kept answer → answer ≡ n → n < 8 → n ≢ 0 → is_run_status n ≡ true → (n ≡ status_of kept → holds ≡ true)
+    → RanWith files hosts sink asked kept answer holds
+run_with files hosts sink asked kept answer n holds (inr out) is small some run shows = absurd (let nine = out.status in omega (arith, nine, is, small))
+run_with files hosts sink asked kept answer n holds (inl told) is small some run shows =
+    let put = put_whole sink (text_for told.found kept) (status_for told.found kept) answer n told.puts is (uncut_low n small) in
+    by_found told.found told.cause put.0 put.1
+  where
+    other : (status : ℕ) → n ≡ status → is_run_status status ≡ false → ⊥
+    other status e unlike = true≢false (sym run ∙ ap is_run_status e ∙ unlike)
+
+    a_run : (found : Outcome) → TellsRun found → OfJob files hosts asked kept found → n ≡ status_for found kept
+        → Appends sink.taken_before sink.taken_after (text_for found kept) → RanWith files hosts sink asked kept answer holds
+    a_run found tells cause e text = record {
+      run = whole_run files hosts sink asked kept answer found tells cause (is ∙ e) text;
+      shown = shows (told_own found kept n tells e (λ ten. omega (arith, small, ten)));
+    }
+
+    by_found : (found : Outcome) → HasCause files hosts asked kept found → n ≡ status_for found kept
+        → Appends sink.taken_before sink.taken_after (text_for found kept) → RanWith files hosts sink asked kept answer holds
+    by_found Usage cause e text = absurd (other 2 e refl)
+    by_found (FileFault of) cause e text = absurd (other 7 e refl)
+    by_found (TooLong of) cause e text = absurd (other 7 e refl)
+    by_found (NotRead read_fault) cause e text = absurd (other 3 e refl)
+    by_found (NotVerified rule at) cause e text = absurd (other 4 e refl)
+    by_found (Accepted functions instructions) cause e text = absurd (some e)
+    by_found (Instrumented target) cause e text = absurd (some e)
+    by_found Ran cause e text = a_run Ran tt cause e text
+    by_found (Raced races) cause e text = a_run (Raced races) tt cause e text
+
+-- 0: a run without violations, or a program that was accepted, or its target code
+clean : (files : FilesSeen) (hosts : HostTable) (sink : SinkSeen) (asked : Option Job) (kept : RunRecord) (answer : ℕ)
+    → Answers files hosts sink asked kept answer → answer ≡ 0
+    → RanWith files hosts sink asked kept answer (not (has_violations kept)) ⊎ AcceptedWhole files hosts sink asked kept
+    ⊎ InstrumentedWhole files hosts sink asked kept
+clean files hosts sink asked kept answer (inr out) is = absurd (let nine = out.status in omega (arith, nine, is))
+clean files hosts sink asked kept answer (inl told) is =
+    let put = put_whole sink (text_for told.found kept) (status_for told.found kept) answer 0 told.puts is (uncut_low 0 (omega arith)) in
+    by_found told.found told.cause put.0 put.1
+  where
+    a_run : (found : Outcome) → TellsRun found → OfJob files hosts asked kept found → 0 ≡ status_for found kept
+        → Appends sink.taken_before sink.taken_after (text_for found kept) → RanWith files hosts sink asked kept answer (not (has_violations kept))
+    a_run found tells cause e text = record {
+      run = whole_run files hosts sink asked kept answer found tells cause (is ∙ e) text;
+      shown = none_at_0 (any_end is_no_memory kept) (any_end is_limit kept) (any_end is_trap kept) (has_violations kept) 0 refl
+          (told_own found kept 0 tells e (λ ten. omega (arith, ten)));
+    }
+
+    by_found : (found : Outcome) → HasCause files hosts asked kept found → 0 ≡ status_for found kept
+        → Appends sink.taken_before sink.taken_after (text_for found kept)
+        → RanWith files hosts sink asked kept answer (not (has_violations kept)) ⊎ AcceptedWhole files hosts sink asked kept
+        ⊎ InstrumentedWhole files hosts sink asked kept
+    by_found Usage cause e text = absurd (omega (arith, e))
+    by_found (FileFault of) cause e text = absurd (omega (arith, e))
+    by_found (TooLong of) cause e text = absurd (omega (arith, e))
+    by_found (NotRead read_fault) cause e text = absurd (omega (arith, e))
+    by_found (NotVerified rule at) cause e text = absurd (omega (arith, e))
+    by_found (Accepted functions instructions) cause e text =
+        inr (inl (record { functions = functions; instructions = instructions; cause = cause; text = text }))
+    by_found (Instrumented target) cause e text = inr (inr (record { target = target; cause = cause; text = text }))
+    by_found Ran cause e text = inl (a_run Ran tt cause e text)
+    by_found (Raced races) cause e text = inl (a_run (Raced races) tt cause e text)
+
+-- 10: a run with data races
+raced : (files : FilesSeen) (hosts : HostTable) (sink : SinkSeen) (asked : Option Job) (kept : RunRecord) (answer : ℕ)
+    → Answers files hosts sink asked kept answer → answer ≡ 10 → RacedWhole files hosts sink asked kept
+raced files hosts sink asked kept answer (inr out) is = absurd (let nine = out.status in omega (arith, nine, is))
+raced files hosts sink asked kept answer (inl told) is =
+    let put = put_whole sink (text_for told.found kept) (status_for told.found kept) answer 10 told.puts is uncut in
+    by_found told.found told.cause put.0 put.1
+  where
+    uncut : IsCutShort 10 → ⊥
+    uncut (inl e) = omega (arith, e)
+    uncut (inr e) = omega (arith, e)
+
+    not_own : 10 ≡ status_of kept → ⊥
+    not_own own = true≢false (sym (run_status kept) ∙ ap is_run_status (sym own))
+
+    with_races : (races : List Race) → OfJob files hosts asked kept (Raced races) → (10 ≡ status_of kept) ⊎ IsTen 10 (status_of kept) (length races)
+        → Appends sink.taken_before sink.taken_after (race_text kept races) → RacedWhole files hosts sink asked kept
+    with_races races cause (inl own) text = absurd (not_own own)
+    with_races races cause (inr ten) text = record {
+      races = races;
+      cause = cause;
+      some = λ none. let at : length races ≡ 0 = ap (length {A = Race}) none in let some = ten.some in omega (arith, at, some);
+      low = ten.low;
+      text = text;
+    }
+
+    by_found : (found : Outcome) → HasCause files hosts asked kept found → 10 ≡ status_for found kept
+        → Appends sink.taken_before sink.taken_after (text_for found kept) → RacedWhole files hosts sink asked kept
+    by_found Usage cause e text = absurd (omega (arith, e))
+    by_found (FileFault of) cause e text = absurd (omega (arith, e))
+    by_found (TooLong of) cause e text = absurd (omega (arith, e))
+    by_found (NotRead read_fault) cause e text = absurd (omega (arith, e))
+    by_found (NotVerified rule at) cause e text = absurd (omega (arith, e))
+    by_found (Accepted functions instructions) cause e text = absurd (omega (arith, e))
+    by_found (Instrumented target) cause e text = absurd (omega (arith, e))
+    by_found Ran cause e text = absurd (not_own e)
+    by_found (Raced races) cause e text = with_races races cause (raced_as 10 (status_of kept) (length races) e) text
+
+-- 0, 1, 5, 6 and 10: a run of which the whole text was put; 0 also: a program was accepted, or its target code made
+pub run_cause : (files : FilesSeen) (hosts : HostTable) (sink : SinkSeen) (asked : Option Job) (kept : RunRecord) (answer : ℕ)
+    → Answers files hosts sink asked kept answer → RunCause files hosts sink asked kept answer
+run_cause files hosts sink asked kept answer answers = record {
+  clean = clean files hosts sink asked kept answer answers;
+  violated = λ is. run_with files hosts sink asked kept answer 1 (has_violations kept) answers is (omega arith) (λ e. omega (arith, e)) refl
+      (some_at_1 (any_end is_no_memory kept) (any_end is_limit kept) (any_end is_trap kept) (has_violations kept) 1 refl);
+  trapped = λ is. run_with files hosts sink asked kept answer 5 (any_end is_trap kept) answers is (omega arith) (λ e. omega (arith, e)) refl
+      (trap_at_5 (any_end is_no_memory kept) (any_end is_limit kept) (any_end is_trap kept) (has_violations kept) 5 refl);
+  limited = λ is. run_with files hosts sink asked kept answer 6 (any_end is_limit kept) answers is (omega arith) (λ e. omega (arith, e)) refl
+      (limit_at_6 (any_end is_no_memory kept) (any_end is_limit kept) (any_end is_trap kept) (has_violations kept) 6 refl);
+  raced = raced files hosts sink asked kept answer answers;
+}
+
+-- 9: nothing was put, or the whole text of a run in which a thread found no memory
+pub memory_cause : (files : FilesSeen) (hosts : HostTable) (sink : SinkSeen) (asked : Option Job) (kept : RunRecord) (answer : ℕ)
+    → Answers files hosts sink asked kept answer → MemoryCause files hosts sink asked kept answer
+memory_cause files hosts sink asked kept answer (inr out) is = inl (record { nothing = out.nothing; record_kept = out.record_kept })
+memory_cause files hosts sink asked kept answer (inl told) is = by_puts told.puts
+  where
+    a_run : (found : Outcome) → TellsRun found → OfJob files hosts asked kept found → answer ≡ status_for found kept
+        → Appends sink.taken_before sink.taken_after (text_for found kept) → RanWith files hosts sink asked kept answer (any_end is_no_memory kept)
+    a_run found tells cause e text = record {
+      run = whole_run files hosts sink asked kept answer found tells cause e text;
+      shown = memory_at_9 (any_end is_no_memory kept) (any_end is_limit kept) (any_end is_trap kept) (has_violations kept) answer is
+          (told_own found kept answer tells e (λ ten. omega (arith, is, ten)));
+    }
+
+    by_found : (found : Outcome) → HasCause files hosts asked kept found → answer ≡ status_for found kept
+        → Appends sink.taken_before sink.taken_after (text_for found kept) → RanWith files hosts sink asked kept answer (any_end is_no_memory kept)
+    by_found Usage cause e text = absurd (omega (arith, e, is))
+    by_found (FileFault of) cause e text = absurd (omega (arith, e, is))
+    by_found (TooLong of) cause e text = absurd (omega (arith, e, is))
+    by_found (NotRead read_fault) cause e text = absurd (omega (arith, e, is))
+    by_found (NotVerified rule at) cause e text = absurd (omega (arith, e, is))
+    by_found (Accepted functions instructions) cause e text = absurd (omega (arith, e, is))
+    by_found (Instrumented target) cause e text = absurd (omega (arith, e, is))
+    by_found Ran cause e text = a_run Ran tt cause e text
+    by_found (Raced races) cause e text = a_run (Raced races) tt cause e text
+
+    by_puts : Puts sink (text_for told.found kept) (status_for told.found kept) answer
+        → PutNothing files hosts sink asked kept ⊎ RanWith files hosts sink asked kept answer (any_end is_no_memory kept)
+    by_puts (whole e text) = inr (by_found told.found told.cause e text)
+    by_puts (failed e rose prefix) = absurd (omega (arith, e, is))
+    by_puts (no_memory e keeps) = inl (record { nothing = keeps; record_kept = left files hosts asked kept told.found told.cause })

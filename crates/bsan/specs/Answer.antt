@@ -1,8 +1,9 @@
 -- What the top call answers: what the work found, why, with which text and status, and the record.
-use Rattle.std.specs.Prelude.{◌≡◌, ◌⊎◌, ℕ, List, length, Some, None}
+use Rattle.std.specs.Prelude.{◌≡◌, ◌⊎◌, ℕ, List, length, Option, Some, None, IsSomeAnd}
 use Rattle.std.specs.List.{sum_by}
 use Rattle.std.specs.Io.KnownBytes.{Keeps}
-use Rattle.command_words.specs.Jobs.{Job, job_of}
+use Rattle.command_words.specs.Jobs.{Job}
+use Rattle.command_words.specs.Jobs.Job.{Check, Instrument, Replay, Races}
 use Rattle.ir_ast.specs.Programs.{function_instructions}
 use Rattle.ir_ast.specs.declared.hosts.HostTable.{HostTable}
 use Rattle.ir_ast.specs.declared.program.Program.{Program}
@@ -14,21 +15,36 @@ use Rattle.ir_verify.specs.declared.refusal.VerifyFault.{VerifyFault}
 use Rattle.ir_verify.specs.declared.refusal.VerifyFault.TheVariants.{Refused, NoMemory}
 use Rattle.instrument.specs.Translation.{translation}
 use Rattle.target_code.specs.Texts.{target_text}
-use Rattle.history.specs.Records.{empty_record}
+use Rattle.outside_io.specs.declared.files.FileFault.{FileFault as Fault}
+use Rattle.outside_io.specs.declared.files.FileFault.TheVariants as unread
+use Rattle.history.specs.Records.{empty_record, merged, HasDistinctStamps}
 use Rattle.history.specs.declared.record.RunRecord.{RunRecord}
-use Rattle.report.specs.Report.{text_of, status_of}
-use Rattle.bsan.specs.Words.{Text, file_in, OfInputFile, IsCheck, IsInstrument}
+use Rattle.report.specs.Report.{text_of, status_of, IsReportable}
+use Rattle.race_check.specs.Races.{AreFirstRaces}
+use Rattle.race_check.specs.Text.{race_text, race_status}
+use Rattle.bsan.specs.Words.{Text, file_in, input_in}
 use Rattle.bsan.specs.Seen.{FilesSeen, SinkSeen, Failed, WasTooLong, WasRead, Puts}
 use Rattle.bsan.specs.Lines.{usage_text, file_fault_line, too_long_line, fault_line, rule_line, accepted_line}
-use Rattle.bsan.specs.Runs.{IsOfRun}
+use Rattle.bsan.specs.Runs.{IsScheduledRun, IsOfRun}
 use Rattle.bsan.specs.declared.outcome.Role.TheVariants as role
 use Rattle.bsan.specs.declared.outcome.Outcome.{Outcome}
-use Rattle.bsan.specs.declared.outcome.Outcome.TheVariants.{Usage, FileFault, TooLong, NotRead, NotVerified, Accepted, Instrumented, Ran}
+use Rattle.bsan.specs.declared.outcome.Outcome.TheVariants.{Usage, FileFault, TooLong, NotRead, NotVerified, Accepted, Instrumented, Ran, Raced}
 
 -- what was found is what the verifier told
 abbrev pub IsBrokenRule : VerifyFault → Outcome → Type 0
 IsBrokenRule (Refused rule at) found = found ≡ NotVerified rule at
 IsBrokenRule NoMemory found = ⊥
+
+-- what was found is why the input was not read
+abbrev pub IsUnreadInput : Fault → Outcome → Type 0
+IsUnreadInput unread.Failed found = found ≡ FileFault role.Input
+IsUnreadInput unread.TooLong found = found ≡ TooLong role.Input
+IsUnreadInput unread.NoMemory found = ⊥
+
+-- what was found is the data races of the record
+abbrev pub IsRaced : RunRecord → Outcome → Type 0
+IsRaced kept (Raced races) = AreFirstRaces (merged kept) races
+IsRaced kept found = ⊥
 
 -- the status of what the work found
 abbrev pub status_for : Outcome → RunRecord → ℕ
@@ -40,6 +56,7 @@ status_for (NotVerified rule at) kept = 4
 status_for (Accepted functions instructions) kept = 0
 status_for (Instrumented target) kept = 0
 status_for Ran kept = status_of kept
+status_for (Raced races) kept = race_status kept races
 
 -- its text
 abbrev pub text_for : Outcome → RunRecord → List ℕ
@@ -51,17 +68,24 @@ text_for (NotVerified rule at) kept = rule_line rule at
 text_for (Accepted functions instructions) kept = accepted_line functions instructions
 text_for (Instrumented target) kept = target_text target
 text_for Ran kept = text_of kept
+text_for (Raced races) kept = race_text kept races
 
--- the words ask for a job, and P holds of its file
-pub record OfFile (words : List Text) (P : Text → Type 0) : Type 0 where
+-- its text can be made
+abbrev pub CanBeTold : Outcome → RunRecord → Type 0
+CanBeTold Ran kept = IsReportable kept
+CanBeTold (Raced races) kept = HasDistinctStamps kept × AreFirstRaces (merged kept) races
+CanBeTold found kept = Unit {0}
+
+-- a job is asked for, and P holds of its file
+pub record OfFile (asked : Option Job) (P : Text → Type 0) : Type 0 where
   pub job : Job
-  pub asked : job_of words ≡ Some job
+  pub is : asked ≡ Some job
   pub holds : P (file_in job)
 
--- the words ask for a job, and P holds of it and of the text that was read of its file
-pub record OfText (files : FilesSeen) (words : List Text) (P : Job → List ℕ → Type 0) : Type 0 where
+-- a job is asked for, and P holds of it and of the text that was read of its file
+pub record OfText (files : FilesSeen) (asked : Option Job) (P : Job → List ℕ → Type 0) : Type 0 where
   pub job : Job
-  pub asked : job_of words ≡ Some job
+  pub is : asked ≡ Some job
   pub text : List ℕ
   pub read : WasRead files (file_in job) most_bytes text
   pub holds : P job text
@@ -75,49 +99,55 @@ pub record OfProgram (P : Program → Type 0) (text : List ℕ) : Type 0 where
 -- what the job finds in a program, and what record it leaves
 abbrev pub FindsIn : FilesSeen → HostTable → RunRecord → Outcome → Job → Program → Type 0
 FindsIn files hosts kept (NotVerified rule at) job program = IsFirstBroken program hosts (fault rule at) × (kept ≡ empty_record)
-FindsIn files hosts kept (Accepted functions instructions) job program =
-    IsCheck job × IsAccepted program hosts × (functions ≡ length program.functions)
-    × (instructions ≡ sum_by function_instructions program.functions) × (kept ≡ empty_record)
-FindsIn files hosts kept (Instrumented target) job program =
-    IsInstrument job × IsAccepted program hosts × (target ≡ translation hosts.entries program) × (kept ≡ empty_record)
 FindsIn files hosts kept (FileFault role.Input) job program =
-    IsAccepted program hosts × OfInputFile (λ file. Failed files file) job × (kept ≡ empty_record)
+    IsAccepted program hosts × IsSomeAnd (input_in job) (λ file. Failed files file) × (kept ≡ empty_record)
 FindsIn files hosts kept (TooLong role.Input) job program =
-    IsAccepted program hosts × OfInputFile (λ file. WasTooLong files file most_bytes) job × (kept ≡ empty_record)
-FindsIn files hosts kept Ran job program = IsAccepted program hosts × IsOfRun files hosts kept program job
+    IsAccepted program hosts × IsSomeAnd (input_in job) (λ file. WasTooLong files file most_bytes) × (kept ≡ empty_record)
+FindsIn files hosts kept (Accepted functions instructions) (Check file) program =
+    IsAccepted program hosts × (functions ≡ length program.functions)
+    × (instructions ≡ sum_by function_instructions program.functions) × (kept ≡ empty_record)
+FindsIn files hosts kept (Instrumented target) (Instrument file) program =
+    IsAccepted program hosts × (target ≡ translation hosts.entries program) × (kept ≡ empty_record)
+FindsIn files hosts kept Ran (Replay run) program = IsAccepted program hosts × IsScheduledRun files hosts kept program run
+FindsIn files hosts kept (Raced races) (Races run) program =
+    IsAccepted program hosts × IsScheduledRun files hosts kept program run × AreFirstRaces (merged kept) races
 FindsIn files hosts kept found job program = ⊥
 
 -- the text that was read is a program's, in which the job finds this
-abbrev pub OfJob : FilesSeen → HostTable → List Text → RunRecord → Outcome → Type 0
-OfJob files hosts words kept found = OfText files words (λ job text. OfProgram (FindsIn files hosts kept found job) text)
+abbrev pub OfJob : FilesSeen → HostTable → Option Job → RunRecord → Outcome → Type 0
+OfJob files hosts asked kept found = OfText files asked (λ job text. OfProgram (FindsIn files hosts kept found job) text)
 
 -- why the work found this, and what record it left
-abbrev pub HasCause : FilesSeen → HostTable → List Text → RunRecord → Outcome → Type 0
-HasCause files hosts words kept Usage = (job_of words ≡ None) × (kept ≡ empty_record)
-HasCause files hosts words kept (FileFault role.Program) = OfFile words (λ file. Failed files file) × (kept ≡ empty_record)
-HasCause files hosts words kept (TooLong role.Program) =
-    OfFile words (λ file. WasTooLong files file most_bytes) × (kept ≡ empty_record)
-HasCause files hosts words kept (NotRead read_fault) =
-    OfText files words (λ job text. Refuses text read_fault) × (kept ≡ empty_record)
-HasCause files hosts words kept found = OfJob files hosts words kept found
+abbrev pub HasCause : FilesSeen → HostTable → Option Job → RunRecord → Outcome → Type 0
+HasCause files hosts asked kept Usage = (asked ≡ None) × (kept ≡ empty_record)
+HasCause files hosts asked kept (FileFault role.Program) = OfFile asked (λ file. Failed files file) × (kept ≡ empty_record)
+HasCause files hosts asked kept (TooLong role.Program) =
+    OfFile asked (λ file. WasTooLong files file most_bytes) × (kept ≡ empty_record)
+HasCause files hosts asked kept (NotRead read_fault) =
+    OfText files asked (λ job text. Refuses text read_fault) × (kept ≡ empty_record)
+HasCause files hosts asked kept found = OfJob files hosts asked kept found
+
+-- the text that was read is an accepted program's, and the record is that of the run that was asked for
+abbrev pub OfRun : FilesSeen → HostTable → Option Job → RunRecord → Type 0
+OfRun files hosts asked kept = OfText files asked (λ job text. OfProgram (λ program. IsAccepted program hosts × IsOfRun files hosts kept program job) text)
 
 -- the record is empty, or that of the run that was asked for
-abbrev pub IsEmptyOrRight : FilesSeen → HostTable → List Text → RunRecord → Type 0
-IsEmptyOrRight files hosts words kept = (kept ≡ empty_record) ⊎ OfJob files hosts words kept Ran
+abbrev pub IsEmptyOrRight : FilesSeen → HostTable → Option Job → RunRecord → Type 0
+IsEmptyOrRight files hosts asked kept = (kept ≡ empty_record) ⊎ OfRun files hosts asked kept
 
 -- the work found something, and its text was put
-pub record Told (files : FilesSeen) (hosts : HostTable) (sink : SinkSeen) (words : List Text) (kept : RunRecord) (answer : ℕ) : Type 0 where
+pub record Told (files : FilesSeen) (hosts : HostTable) (sink : SinkSeen) (asked : Option Job) (kept : RunRecord) (answer : ℕ) : Type 0 where
   pub found : Outcome
-  pub cause : HasCause files hosts words kept found
+  pub cause : HasCause files hosts asked kept found
   pub puts : Puts sink (text_for found kept) (status_for found kept) answer
 
 -- out of memory before anything was put
-pub record RanOut (files : FilesSeen) (hosts : HostTable) (sink : SinkSeen) (words : List Text) (kept : RunRecord) (answer : ℕ) : Type 0 where
+pub record RanOut (files : FilesSeen) (hosts : HostTable) (sink : SinkSeen) (asked : Option Job) (kept : RunRecord) (answer : ℕ) : Type 0 where
   pub status : answer ≡ 9
   pub nothing : Keeps sink.taken_before sink.taken_after
-  pub record_kept : IsEmptyOrRight files hosts words kept
+  pub record_kept : IsEmptyOrRight files hosts asked kept
 
 -- the clause of the top call
-abbrev pub Answers : FilesSeen → HostTable → SinkSeen → List Text → RunRecord → ℕ → Type 0
-Answers files hosts sink words kept answer =
-    Told files hosts sink words kept answer ⊎ RanOut files hosts sink words kept answer
+abbrev pub Answers : FilesSeen → HostTable → SinkSeen → Option Job → RunRecord → ℕ → Type 0
+Answers files hosts sink asked kept answer =
+    Told files hosts sink asked kept answer ⊎ RanOut files hosts sink asked kept answer

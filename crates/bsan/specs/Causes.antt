@@ -1,10 +1,10 @@
 -- What follows from the answer of the top call: the cause of each status, and completeness.
-use Rattle.std.specs.Prelude.{◌≡◌, ◌⊎◌, ◌≤◌, ℕ, Bool, true, not, List, [], Option, length, Some, None}
+use Rattle.std.specs.Prelude.{◌≡◌, ◌≢◌, ◌⊎◌, ◌≤◌, ℕ, Bool, true, not, List, [], Option, length, Some, None, IsSomeAnd, IfSome}
 use Rattle.std.specs.List.{list_any, sum_by}
 use Rattle.std.specs.Io.KnownBytes.{Appends, Keeps}
 use Rattle.outside_io.specs.Counts.{Rose}
-use Rattle.command_words.specs.Jobs.{Job, Settings, job_of}
-use Rattle.command_words.specs.Jobs.Job.{Check, Instrument, Replay}
+use Rattle.command_words.specs.Jobs.{Job, ScheduledRun, settings_in}
+use Rattle.command_words.specs.Jobs.Job.{Check, Instrument, Replay, Races}
 use Rattle.core_model.specs.Kept.{Replayed}
 use Rattle.ir_ast.specs.Programs.{function_instructions}
 use Rattle.ir_ast.specs.declared.hosts.HostTable.{HostTable}
@@ -18,49 +18,52 @@ use Rattle.ir_rules.specs.Rules.{Broken, IsAccepted, IsFirstBroken}
 use Rattle.instrument.specs.Translation.{translation}
 use Rattle.target_code.specs.Texts.{target_text}
 use Rattle.target_code.specs.declared.line.Target.{Target}
-use Rattle.history.specs.Records.{empty_record, has_violation}
-use Rattle.history.specs.declared.log.End.{End}
+use Rattle.history.specs.Records.{empty_record, merged, has_violation}
 use Rattle.history.specs.declared.record.RunRecord.{RunRecord}
-use Rattle.report.specs.Report.{text_of, status_of, any_end, is_trap, is_limit}
-use Rattle.bsan.specs.Words.{Text, file_in, OfInputFile}
+use Rattle.report.specs.Report.{text_of, status_of, any_end, is_no_memory, is_trap, is_limit}
+use Rattle.race_check.specs.Races.{AreFirstRaces}
+use Rattle.race_check.specs.Text.{race_text, race_status}
+use Rattle.race_check.specs.declared.race.Race.{Race}
+use Rattle.bsan.specs.Words.{Text, file_in, input_in}
 use Rattle.bsan.specs.Seen.{FilesSeen, SinkSeen, Failed, IsFault}
 use Rattle.bsan.specs.Lines.{accepted_line}
-use Rattle.bsan.specs.Answer.{OfFile, OfText, OfProgram, OfJob, IsEmptyOrRight}
-use Rattle.bsan.specs.declared.outcome.Outcome.TheVariants.{Accepted, Instrumented, Ran}
+use Rattle.bsan.specs.Answer.{OfFile, OfText, OfProgram, OfJob, IsEmptyOrRight, text_for, status_for}
+use Rattle.bsan.specs.declared.outcome.Outcome.{Outcome}
+use Rattle.bsan.specs.declared.outcome.Outcome.TheVariants.{Accepted, Instrumented, Ran, Raced}
 
 -- the text was not put whole, or memory ran out
 abbrev pub IsCutShort : ℕ → Type 0
 IsCutShort answer = (answer ≡ 8) ⊎ (answer ≡ 9)
 
--- 2: exactly where the words ask for nothing
-pub record UsageCause (words : List Text) (answer : ℕ) : Type 0 where
-  pub only : answer ≡ 2 → job_of words ≡ None
-  pub always : job_of words ≡ None → (answer ≡ 2) ⊎ IsCutShort answer
+-- 2: exactly where nothing is asked for
+pub record UsageCause (asked : Option Job) (answer : ℕ) : Type 0 where
+  pub only : answer ≡ 2 → asked ≡ None
+  pub always : asked ≡ None → (answer ≡ 2) ⊎ IsCutShort answer
 
--- the words ask for a job, and P holds of it and of the content of its file, which is told
-pub record TellsText (files : FilesSeen) (words : List Text) (P : Job → List ℕ → Type 0) : Type 0 where
+-- a job is asked for, and P holds of it and of the content of its file, which is told
+pub record TellsText (files : FilesSeen) (asked : Option Job) (P : Job → List ℕ → Type 0) : Type 0 where
   pub job : Job
-  pub asked : job_of words ≡ Some job
+  pub is : asked ≡ Some job
   pub text : List ℕ
   pub content : files.content (file_in job) ≡ Some text
   pub holds : P job text
 
 -- the program's file was not read
-abbrev pub IsUnread : FilesSeen → List Text → Type 0
-IsUnread files words = OfFile words (λ file. IsFault files file)
+abbrev pub IsUnread : FilesSeen → Option Job → Type 0
+IsUnread files asked = OfFile asked (λ file. IsFault files file)
 
 -- 7, since the program's file was not read, or a text that was not put whole, or out of memory
-abbrev pub ComesBetween : FilesSeen → List Text → ℕ → Type 0
-ComesBetween files words answer = ((answer ≡ 7) × IsUnread files words) ⊎ IsCutShort answer
+abbrev pub ComesBetween : FilesSeen → Option Job → ℕ → Type 0
+ComesBetween files asked answer = ((answer ≡ 7) × IsUnread files asked) ⊎ IsCutShort answer
 
 -- the text is refused
 abbrev pub IsRefused : List ℕ → Type 0
 IsRefused text = (read_fault : ReadFault) × Refuses text read_fault
 
 -- 3: exactly where the text is refused, unless the program's file was not read
-pub record NotReadCause (files : FilesSeen) (words : List Text) (answer : ℕ) : Type 0 where
-  pub only : answer ≡ 3 → OfText files words (λ job text. IsRefused text)
-  pub always : TellsText files words (λ job text. IsRefused text) → (answer ≡ 3) ⊎ ComesBetween files words answer
+pub record NotReadCause (files : FilesSeen) (asked : Option Job) (answer : ℕ) : Type 0 where
+  pub only : answer ≡ 3 → OfText files asked (λ job text. IsRefused text)
+  pub always : TellsText files asked (λ job text. IsRefused text) → (answer ≡ 3) ⊎ ComesBetween files asked answer
 
 -- a rule is broken somewhere; and one is told
 abbrev pub IsBroken : HostTable → Program → Type 0
@@ -70,71 +73,88 @@ abbrev pub IsBrokenFirst : HostTable → Program → Type 0
 IsBrokenFirst hosts program = (rule : Rule) × (at : ℕ) × IsFirstBroken program hosts (fault rule at)
 
 -- 4: exactly where the text is a program's in which a rule is broken, unless the program's file was not read
-pub record NotVerifiedCause (files : FilesSeen) (hosts : HostTable) (words : List Text) (answer : ℕ) : Type 0 where
-  pub only : answer ≡ 4 → OfText files words (λ job text. OfProgram (IsBrokenFirst hosts) text)
-  pub always : TellsText files words (λ job text. OfProgram (IsBroken hosts) text) → (answer ≡ 4) ⊎ ComesBetween files words answer
+pub record NotVerifiedCause (files : FilesSeen) (hosts : HostTable) (asked : Option Job) (answer : ℕ) : Type 0 where
+  pub only : answer ≡ 4 → OfText files asked (λ job text. OfProgram (IsBrokenFirst hosts) text)
+  pub always : TellsText files asked (λ job text. OfProgram (IsBroken hosts) text) → (answer ≡ 4) ⊎ ComesBetween files asked answer
 
 -- the program is accepted, and the file with the input was not read
 pub record HasUnreadInput (files : FilesSeen) (hosts : HostTable) (job : Job) (program : Program) : Type 0 where
   pub accepted : IsAccepted program hosts
-  pub unread : OfInputFile (λ file. IsFault files file) job
+  pub unread : IsSomeAnd (input_in job) (λ file. IsFault files file)
 
 -- 7: only where the program's file was not read, or the input's, whose program was accepted
-abbrev pub ReadCause : FilesSeen → HostTable → List Text → ℕ → Type 0
-ReadCause files hosts words answer = answer ≡ 7
-    → IsUnread files words ⊎ OfText files words (λ job text. OfProgram (HasUnreadInput files hosts job) text)
+abbrev pub ReadCause : FilesSeen → HostTable → Option Job → ℕ → Type 0
+ReadCause files hosts asked answer = answer ≡ 7
+    → IsUnread files asked ⊎ OfText files asked (λ job text. OfProgram (HasUnreadInput files hosts job) text)
 
 -- 8: only where the sink failed
 abbrev pub PutCause : SinkSeen → ℕ → Type 0
 PutCause sink answer = answer ≡ 8 → Rose sink.faults_before sink.faults_after
 
--- a run, whose whole report was put
-pub record RanWhole (files : FilesSeen) (hosts : HostTable) (sink : SinkSeen) (words : List Text) (kept : RunRecord) (answer : ℕ) : Type 0 where
-  pub right : OfJob files hosts words kept Ran
-  pub status : answer ≡ status_of kept
-  pub text : Appends sink.taken_before sink.taken_after (text_of kept)
+-- what was found is told of a run: its report, or its races
+abbrev pub TellsRun : Outcome → Type 0
+TellsRun Ran = Unit {0}
+TellsRun (Raced races) = Unit {0}
+TellsRun found = ⊥
+
+-- a run, of which the whole text was put, with its status
+pub record RanWhole (files : FilesSeen) (hosts : HostTable) (sink : SinkSeen) (asked : Option Job) (kept : RunRecord) (answer : ℕ) : Type 0 where
+  pub found : Outcome
+  pub tells : TellsRun found
+  pub cause : OfJob files hosts asked kept found
+  pub status : answer ≡ status_for found kept
+  pub text : Appends sink.taken_before sink.taken_after (text_for found kept)
 
 -- a program that was accepted, and this was put
-pub record AcceptedWhole (files : FilesSeen) (hosts : HostTable) (sink : SinkSeen) (words : List Text) (kept : RunRecord) : Type 0 where
+pub record AcceptedWhole (files : FilesSeen) (hosts : HostTable) (sink : SinkSeen) (asked : Option Job) (kept : RunRecord) : Type 0 where
   pub functions : ℕ
   pub instructions : ℕ
-  pub cause : OfJob files hosts words kept (Accepted functions instructions)
+  pub cause : OfJob files hosts asked kept (Accepted functions instructions)
   pub text : Appends sink.taken_before sink.taken_after (accepted_line functions instructions)
 
 -- a program whose target code was made, and whose text was put
-pub record InstrumentedWhole (files : FilesSeen) (hosts : HostTable) (sink : SinkSeen) (words : List Text) (kept : RunRecord) : Type 0 where
+pub record InstrumentedWhole (files : FilesSeen) (hosts : HostTable) (sink : SinkSeen) (asked : Option Job) (kept : RunRecord) : Type 0 where
   pub target : Target
-  pub cause : OfJob files hosts words kept (Instrumented target)
+  pub cause : OfJob files hosts asked kept (Instrumented target)
   pub text : Appends sink.taken_before sink.taken_after (target_text target)
 
 -- an allocation has a violation
 abbrev pub has_violations : RunRecord → Bool
 has_violations kept = list_any has_violation kept.allocs
 
--- a run, whose whole report was put, and of whose record this holds
-pub record RanWith (files : FilesSeen) (hosts : HostTable) (sink : SinkSeen) (words : List Text) (kept : RunRecord) (answer : ℕ) (holds : Bool) : Type 0 where
-  pub run : RanWhole files hosts sink words kept answer
+-- a run, of which the whole text was put, and of whose record this holds
+pub record RanWith (files : FilesSeen) (hosts : HostTable) (sink : SinkSeen) (asked : Option Job) (kept : RunRecord) (answer : ℕ) (holds : Bool) : Type 0 where
+  pub run : RanWhole files hosts sink asked kept answer
   pub shown : holds ≡ true
 
--- 0: only after a run without violations, whose whole report was put, or where a program was accepted or its target code
+-- a run with data races, all of whose lines were put, and neither a trap nor a limit that was reached
+pub record RacedWhole (files : FilesSeen) (hosts : HostTable) (sink : SinkSeen) (asked : Option Job) (kept : RunRecord) : Type 0 where
+  pub races : List Race
+  pub cause : OfJob files hosts asked kept (Raced races)
+  pub some : races ≢ []
+  pub low : status_of kept ≤ 1
+  pub text : Appends sink.taken_before sink.taken_after (race_text kept races)
+
+-- 0: only after a run without violations, of which the whole text was put, or where a program was accepted or its target code
 -- made, and that was put; 1, 5 and 6: only after a run with violations, with a trap, or with a limit that was reached,
--- whose whole report was put
-pub record RunCause (files : FilesSeen) (hosts : HostTable) (sink : SinkSeen) (words : List Text) (kept : RunRecord) (answer : ℕ) : Type 0 where
-  pub clean : answer ≡ 0 → RanWith files hosts sink words kept answer (not (has_violations kept))
-      ⊎ AcceptedWhole files hosts sink words kept ⊎ InstrumentedWhole files hosts sink words kept
-  pub violated : answer ≡ 1 → RanWith files hosts sink words kept answer (has_violations kept)
-  pub trapped : answer ≡ 5 → RanWith files hosts sink words kept answer (any_end is_trap kept)
-  pub limited : answer ≡ 6 → RanWith files hosts sink words kept answer (any_end is_limit kept)
+-- of which the whole text was put; 10: only after a run with data races, whose lines were put
+pub record RunCause (files : FilesSeen) (hosts : HostTable) (sink : SinkSeen) (asked : Option Job) (kept : RunRecord) (answer : ℕ) : Type 0 where
+  pub clean : answer ≡ 0 → RanWith files hosts sink asked kept answer (not (has_violations kept))
+      ⊎ AcceptedWhole files hosts sink asked kept ⊎ InstrumentedWhole files hosts sink asked kept
+  pub violated : answer ≡ 1 → RanWith files hosts sink asked kept answer (has_violations kept)
+  pub trapped : answer ≡ 5 → RanWith files hosts sink asked kept answer (any_end is_trap kept)
+  pub limited : answer ≡ 6 → RanWith files hosts sink asked kept answer (any_end is_limit kept)
+  pub raced : answer ≡ 10 → RacedWhole files hosts sink asked kept
 
 -- nothing was put, and the record is empty or right
-pub record PutNothing (files : FilesSeen) (hosts : HostTable) (sink : SinkSeen) (words : List Text) (kept : RunRecord) : Type 0 where
+pub record PutNothing (files : FilesSeen) (hosts : HostTable) (sink : SinkSeen) (asked : Option Job) (kept : RunRecord) : Type 0 where
   pub nothing : Keeps sink.taken_before sink.taken_after
-  pub record_kept : IsEmptyOrRight files hosts words kept
+  pub record_kept : IsEmptyOrRight files hosts asked kept
 
--- 9: nothing was put, or the whole report of a run in which a thread found no memory
-abbrev pub MemoryCause : FilesSeen → HostTable → SinkSeen → List Text → RunRecord → ℕ → Type 0
-MemoryCause files hosts sink words kept answer = answer ≡ 9
-    → PutNothing files hosts sink words kept ⊎ RanWhole files hosts sink words kept answer
+-- 9: nothing was put, or the whole text of a run in which a thread found no memory
+abbrev pub MemoryCause : FilesSeen → HostTable → SinkSeen → Option Job → RunRecord → ℕ → Type 0
+MemoryCause files hosts sink asked kept answer = answer ≡ 9
+    → PutNothing files hosts sink asked kept ⊎ RanWith files hosts sink asked kept answer (any_end is_no_memory kept)
 
 -- a status without a run leaves no record
 abbrev pub LeavesNone : RunRecord → ℕ → Type 0
@@ -152,13 +172,11 @@ IsGivenInput files None input = input ≡ []
 IsGivenInput files (Some file) input = IsGiven files file input
 
 abbrev pub HasInput : FilesSeen → List ℕ → Job → Type 0
-HasInput files input (Check file) = Unit {0}
-HasInput files input (Instrument file) = Unit {0}
-HasInput files input (Replay file schedule settings) = IsGivenInput files settings.input input
+HasInput files input job = IfSome (settings_in job) (λ settings. IsGivenInput files settings.input input)
 
--- the words ask for this job, its files are told, the first is an accepted program's text, and neither they nor the sink fail
-pub record AllIsWell (files : FilesSeen) (hosts : HostTable) (sink : SinkSeen) (words : List Text) (job : Job) (text input : List ℕ) (program : Program) : Type 0 where
-  pub asked : job_of words ≡ Some job
+-- this job is asked for, its files are told, the first is an accepted program's text, and neither they nor the sink fail
+pub record AllIsWell (files : FilesSeen) (hosts : HostTable) (sink : SinkSeen) (asked : Option Job) (job : Job) (text input : List ℕ) (program : Program) : Type 0 where
+  pub is : asked ≡ Some job
   pub given : IsGiven files (file_in job) text
   pub reads : IsProgramOf text program
   pub accepted : IsAccepted program hosts
@@ -166,10 +184,18 @@ pub record AllIsWell (files : FilesSeen) (hosts : HostTable) (sink : SinkSeen) (
   pub no_put_fault : ¬ Rose sink.faults_before sink.faults_after
 
 -- the run's status, with the whole report, and the record of the program's run with this input
-pub record Succeeds (hosts : HostTable) (sink : SinkSeen) (kept : RunRecord) (program : Program) (input schedule : List ℕ) (settings : Settings) (answer : ℕ) : Type 0 where
-  pub run : Replayed program input hosts settings.limits schedule kept
+pub record IsReported (hosts : HostTable) (sink : SinkSeen) (kept : RunRecord) (program : Program) (input : List ℕ) (run : ScheduledRun) (answer : ℕ) : Type 0 where
+  pub right : Replayed program input hosts run.settings.limits run.schedule kept
   pub status : answer ≡ status_of kept
   pub text : Appends sink.taken_before sink.taken_after (text_of kept)
+
+-- the lines of the run's races, with their status, and the record of the program's run with this input
+pub record IsChecked (hosts : HostTable) (sink : SinkSeen) (kept : RunRecord) (program : Program) (input : List ℕ) (run : ScheduledRun) (answer : ℕ) : Type 0 where
+  pub right : Replayed program input hosts run.settings.limits run.schedule kept
+  pub races : List Race
+  pub first : AreFirstRaces (merged kept) races
+  pub status : answer ≡ race_status kept races
+  pub text : Appends sink.taken_before sink.taken_after (race_text kept races)
 
 -- 0, with how many functions and instructions the program has
 pub record IsCounted (sink : SinkSeen) (program : Program) (answer : ℕ) : Type 0 where
@@ -185,9 +211,10 @@ pub record IsTranslated (hosts : HostTable) (sink : SinkSeen) (program : Program
 abbrev pub IsServed : HostTable → SinkSeen → RunRecord → Program → List ℕ → ℕ → Job → Type 0
 IsServed hosts sink kept program input answer (Check file) = IsCounted sink program answer
 IsServed hosts sink kept program input answer (Instrument file) = IsTranslated hosts sink program answer
-IsServed hosts sink kept program input answer (Replay file schedule settings) = Succeeds hosts sink kept program input schedule settings answer
+IsServed hosts sink kept program input answer (Replay run) = IsReported hosts sink kept program input run answer
+IsServed hosts sink kept program input answer (Races run) = IsChecked hosts sink kept program input run answer
 
 -- where all is well, the job is served, or the call is out of memory
-abbrev pub IsComplete : FilesSeen → HostTable → SinkSeen → List Text → RunRecord → ℕ → Type 0
-IsComplete files hosts sink words kept answer = (job : Job) (text input : List ℕ) (program : Program)
-    → AllIsWell files hosts sink words job text input program → IsServed hosts sink kept program input answer job ⊎ (answer ≡ 9)
+abbrev pub IsComplete : FilesSeen → HostTable → SinkSeen → Option Job → RunRecord → ℕ → Type 0
+IsComplete files hosts sink asked kept answer = (job : Job) (text input : List ℕ) (program : Program)
+    → AllIsWell files hosts sink asked job text input program → IsServed hosts sink kept program input answer job ⊎ (answer ≡ 9)

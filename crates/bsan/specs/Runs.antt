@@ -1,7 +1,7 @@
 -- The runs that a job asks for.
 use Rattle.std.specs.Prelude.{◌≡◌, ℕ, List, [], Option, Some, None}
-use Rattle.command_words.specs.Jobs.{Job}
-use Rattle.command_words.specs.Jobs.Job.{Check, Instrument, Replay}
+use Rattle.command_words.specs.Jobs.{Job, ScheduledRun}
+use Rattle.command_words.specs.Jobs.Job.{Replay, Races}
 use Rattle.core_model.specs.Kept.{Replayed}
 use Rattle.history.specs.declared.record.RunRecord.{RunRecord}
 use Rattle.ir_ast.specs.declared.hosts.HostTable.{HostTable}
@@ -15,9 +15,13 @@ abbrev pub IsInput : FilesSeen → Option Text → List ℕ → Type 0
 IsInput files None input = input ≡ []
 IsInput files (Some file) input = WasRead files file most_bytes input
 
--- the job is a run, and the record is that of this run of the program, and right
+-- the record is that of this run of the program, with the input that was read, and right
+abbrev pub IsScheduledRun : FilesSeen → HostTable → RunRecord → Program → ScheduledRun → Type 0
+IsScheduledRun files hosts kept program run =
+    (input : List ℕ) × IsInput files run.settings.input input × Replayed program input hosts run.settings.limits run.schedule kept
+
+-- the job has a run, and the record is that of it
 abbrev pub IsOfRun : FilesSeen → HostTable → RunRecord → Program → Job → Type 0
-IsOfRun files hosts kept program (Check file) = ⊥
-IsOfRun files hosts kept program (Instrument file) = ⊥
-IsOfRun files hosts kept program (Replay file schedule settings) =
-    (input : List ℕ) × IsInput files settings.input input × Replayed program input hosts settings.limits schedule kept
+IsOfRun files hosts kept program (Replay run) = IsScheduledRun files hosts kept program run
+IsOfRun files hosts kept program (Races run) = IsScheduledRun files hosts kept program run
+IsOfRun files hosts kept program job = ⊥

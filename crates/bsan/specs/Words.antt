@@ -1,8 +1,8 @@
 -- The words of a command line, and the files that they name.
-use Rattle.std.specs.Prelude.{ℕ, List}
-use Rattle.std.specs.Option.{IsSomeAnd}
-use Rattle.command_words.specs.Jobs.{Job}
-use Rattle.command_words.specs.Jobs.Job.{Check, Instrument, Replay}
+use Rattle.std.specs.Prelude.{ℕ, List, Option, IfSome}
+use Rattle.std.specs.Option.{option_and_then}
+use Rattle.command_words.specs.Jobs.{Job, settings_in}
+use Rattle.command_words.specs.Jobs.Job.{Check, Instrument, Replay, Races}
 use Rattle.core_model.specs.Running.{AreLimits}
 
 -- a word, or a name of a file, as its bytes
@@ -13,28 +13,13 @@ Text = List ℕ
 abbrev pub file_in : Job → Text
 file_in (Check file) = file
 file_in (Instrument file) = file
-file_in (Replay file schedule settings) = file
+file_in (Replay run) = run.file
+file_in (Races run) = run.file
 
--- a run with a file for its input, of which P holds
-abbrev pub OfInputFile : (Text → Type 0) → Job → Type 0
-OfInputFile P (Check file) = ⊥
-OfInputFile P (Instrument file) = ⊥
-OfInputFile P (Replay file schedule settings) = IsSomeAnd settings.input P
+-- the file with the input, where the job has a run and names one
+abbrev pub input_in : Job → Option Text
+input_in job = option_and_then (λ settings. settings.input) (settings_in job)
 
 -- the limits of a run are in their ranges
 abbrev pub HasLimits : Job → Type 0
-HasLimits (Check file) = Unit {0}
-HasLimits (Instrument file) = Unit {0}
-HasLimits (Replay file schedule settings) = AreLimits settings.limits
-
--- only a text is asked to be read and verified
-abbrev pub IsCheck : Job → Type 0
-IsCheck (Check file) = Unit {0}
-IsCheck (Instrument file) = ⊥
-IsCheck (Replay file schedule settings) = ⊥
-
--- the target code of a text's program is asked for
-abbrev pub IsInstrument : Job → Type 0
-IsInstrument (Check file) = ⊥
-IsInstrument (Instrument file) = Unit {0}
-IsInstrument (Replay file schedule settings) = ⊥
+HasLimits job = IfSome (settings_in job) (λ settings. AreLimits settings.limits)

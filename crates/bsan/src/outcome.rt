@@ -1,12 +1,12 @@
 //! What the work of a call can find, and the status and the text of each.
 ghost use Rattle.std.specs.Prelude.{◌≡◌, IfOk};
-ghost use Rattle.report.specs.Report.{IsReportable};
 ghost use Rattle.bsan.specs.Answer as answer;
 
 use crate::lines::{USAGE, accepted_line, fault_line, file_fault_line, rule_line, too_long_line};
-use bsan_ids::NoMemory;
+use bsan_ids::{ListOf, NoMemory};
 use ir_reader::ReadFault;
 use ir_rules::Rule;
+use race_check::{Race, race_status, race_text};
 use report::{status_of, text_of};
 use run_record::RunRecord;
 use std::alloc::Global;
@@ -38,9 +38,11 @@ pub enum Outcome {
     Instrumented { target: Target },
     /// The program was run, and its record kept.
     Ran,
+    /// The program was run, its record kept, and the data races of the run found.
+    Raced { races: ListOf<Race> },
 }
 
-/// The status of what was found. After a run it is that of the record.
+/// The status of what was found. After a run it is that of the record, or of its races.
 pub fn status_for(found: &Outcome, kept: &RunRecord) -> u8
     ensures { result ≡ answer.status_for found.now kept.now }
 {
@@ -51,16 +53,17 @@ pub fn status_for(found: &Outcome, kept: &RunRecord) -> u8
         Outcome::NotVerified { .. } => 4,
         Outcome::Accepted { .. } | Outcome::Instrumented { .. } => 0,
         Outcome::Ran => status_of(kept),
+        Outcome::Raced { races } => race_status(kept, races.as_slice()),
     }
 }
 
-/// The text of what was found: a line or two, the target code, or the report of the record.
+/// The text of what was found: a line or two, the target code, the report of the record, or the lines of its races.
 ///
 /// # Errors
 ///
 /// `NoMemory`: out of memory.
 pub fn text_for(alloc: Global, found: &Outcome, kept: &RunRecord) -> Result<Vec<u8>, NoMemory>
-    requires { found.now ≡ Outcome.Ran → IsReportable kept.now }
+    requires { answer.CanBeTold found.now kept.now }
     ensures { IfOk result (λ text. text.items ≡ answer.text_for found.now kept.now) }
 {
     match found {
@@ -75,5 +78,6 @@ pub fn text_for(alloc: Global, found: &Outcome, kept: &RunRecord) -> Result<Vec<
         } => accepted_line(alloc, *functions, *instructions),
         Outcome::Instrumented { target } => text(alloc, target),
         Outcome::Ran => text_of(alloc, kept),
+        Outcome::Raced { races } => race_text(alloc, kept, races.as_slice()),
     }
 }

@@ -1,22 +1,23 @@
 //! The top call.
 ghost use Rattle.std.specs.Prelude.{◌≡◌, ◌≢◌, ◌≤◌, ℕ, List, [], map, string_bytes, MatchResult, IfOk, OnOk, OnErr, IsErrOf};
 ghost use Rattle.std.specs.Option.{option_map, IsSomeAnd};
-ghost use Rattle.command_words.specs.Meaning.{job_meant};
+ghost use Rattle.command_words.specs.Jobs.{job_of};
+ghost use Rattle.command_words.specs.Meaning.{job_meant, run_meant};
 ghost use Rattle.core_model.specs.Kept.{Replayed};
 ghost use Rattle.core_model.specs.Running.{AreLimits};
 ghost use Rattle.ir_ast.specs.Programs.{IsProgram};
 ghost use Rattle.ir_text.specs.Bytes.{most_bytes};
-ghost use Rattle.history.specs.Records.{empty_record};
-ghost use Rattle.bsan.specs.Answer.{FindsIn, HasCause, Answers, IsBrokenRule};
+ghost use Rattle.history.specs.Records.{empty_record, merged, HasDistinctStamps};
+ghost use Rattle.bsan.specs.Answer.{FindsIn, HasCause, Answers, IsBrokenRule, IsUnreadInput, IsRaced};
 ghost use Rattle.bsan.specs.Seen.{seen_files, seen_sink, Failed, WasTooLong, WasRead, Puts};
-ghost use Rattle.bsan.specs.Runs.{IsInput};
+ghost use Rattle.bsan.specs.Runs.{IsInput, IsScheduledRun};
 ghost use Rattle.bsan.specs.Words.{file_in, HasLimits};
 ghost use Rattle.bsan.specs.Causes.{UsageCause, ReadCause, NotReadCause, NotVerifiedCause, PutCause, RunCause, MemoryCause};
 ghost use Rattle.bsan.specs.Causes.{LeavesNone, IsComplete};
 
 use crate::outcome::{Outcome, Role, status_for, text_for};
-use bsan_ids::NoMemory;
-use command_words::{Job, Replay, WordsFault, read_job};
+use bsan_ids::{ListOf, NoMemory};
+use command_words::{Job, ScheduledRun, WordsFault, read_job};
 use core_model::{main_machine, replay};
 use hosts::Hosts;
 use instrument::instrument;
@@ -25,6 +26,7 @@ use ir_reader::{ReadFault, read};
 use ir_rules::Verified;
 use ir_verify::{VerifyFault, verify};
 use outside_io::{FileFault, Files, PutFault, Sink};
+use race_check::races;
 use run_record::RunRecord;
 use std::alloc::Global;
 
@@ -90,9 +92,9 @@ fn read_input<S: Files>(
 }
 
 /// Replays a verified program with its input.
-fn run(
+fn replay_with(
     alloc: Global,
-    asked: &Replay<'_>,
+    asked: &ScheduledRun<'_>,
     verified: &Verified,
     input: &[u8],
     hosts: &Hosts,
@@ -120,9 +122,69 @@ fn run(
 }
 
 /// Reads the input of a run on one native thread, and makes it.
+fn run<S: Files>(
+    alloc: Global,
+    asked: &ScheduledRun<'_>,
+    verified: &Verified,
+    files: &mut S,
+    hosts: &Hosts,
+    kept: &mut RunRecord,
+) -> Result<(), FileFault>
+    requires hosts { verified.now.hosts ≡ hosts.now.table }
+    requires limits { AreLimits asked.now.settings.limits }
+    requires empty { kept.old ≡ empty_record }
+    ensures ran { OnOk result (IsScheduledRun
+        (seen_files (S.content files.old) (S.faults files.old) (S.faults files.new) (S.overlong files.old) (S.overlong files.new))
+        hosts.now.table kept.new verified.now.program (run_meant asked.now)) }
+    ensures failed { IsErrOf result FileFault.Failed → IsSomeAnd (run_meant asked.now).settings.input (λ file. Failed
+        (seen_files (S.content files.old) (S.faults files.old) (S.faults files.new) (S.overlong files.old) (S.overlong files.new))
+        file) }
+    ensures too_long { IsErrOf result FileFault.TooLong → IsSomeAnd (run_meant asked.now).settings.input (λ file. WasTooLong
+        (seen_files (S.content files.old) (S.faults files.old) (S.faults files.new) (S.overlong files.old) (S.overlong files.new))
+        file most_bytes) }
+    ensures err { OnErr result (kept.new ≡ empty_record) }
+{
+    let mut input = Vec::new(alloc);
+    read_input(files, asked.settings.input, &mut input)?;
+    match replay_with(alloc, asked, verified, input.as_slice(), hosts, kept) {
+        Ok(()) => Ok(()),
+        Err(NoMemory) => Err(FileFault::NoMemory),
+    }
+}
+
+/// What is found where the input is not read.
+fn unread_input(fault: FileFault) -> Result<Outcome, NoMemory>
+    ensures { IfOk result (IsUnreadInput fault) }
+{
+    match fault {
+        FileFault::Failed => Ok(Outcome::FileFault { role: Role::Input }),
+        FileFault::TooLong => Ok(Outcome::TooLong { role: Role::Input }),
+        FileFault::NoMemory => Err(NoMemory),
+    }
+}
+
+/// Finds the data races of a run. Without memory for them there is no record of it either.
+fn find_races(alloc: Global, kept: &mut RunRecord) -> Result<Outcome, NoMemory>
+    requires { HasDistinctStamps kept.old }
+    ensures found { IfOk result (IsRaced kept.new) }
+    ensures same { OnOk result (kept.new ≡ kept.old) }
+    ensures empty { OnErr result (kept.new ≡ empty_record) }
+{
+    match races(alloc, kept) {
+        Ok(races) => Ok(Outcome::Raced {
+            races: ListOf::from_vec(races),
+        }),
+        Err(NoMemory) => {
+            kept.clear();
+            Err(NoMemory)
+        }
+    }
+}
+
+/// Makes a run on one native thread, and tells of it.
 fn serve_replay<S: Files>(
     alloc: Global,
-    asked: &Replay<'_>,
+    asked: &ScheduledRun<'_>,
     verified: &Verified,
     files: &mut S,
     hosts: &Hosts,
@@ -136,15 +198,33 @@ fn serve_replay<S: Files>(
         hosts.now.table kept.new found (job_meant (Job.Replay asked.now)) verified.now.program)
         (λ _. kept.new ≡ empty_record) }
 {
-    let mut input = Vec::new(alloc);
-    match read_input(files, asked.settings.input, &mut input) {
-        Ok(()) => {}
-        Err(FileFault::Failed) => return Ok(Outcome::FileFault { role: Role::Input }),
-        Err(FileFault::TooLong) => return Ok(Outcome::TooLong { role: Role::Input }),
-        Err(FileFault::NoMemory) => return Err(NoMemory),
+    match run(alloc, asked, verified, files, hosts, kept) {
+        Ok(()) => Ok(Outcome::Ran),
+        Err(fault) => unread_input(fault),
     }
-    run(alloc, asked, verified, input.as_slice(), hosts, kept)?;
-    Ok(Outcome::Ran)
+}
+
+/// Makes a run on one native thread, and finds its data races.
+fn serve_races<S: Files>(
+    alloc: Global,
+    asked: &ScheduledRun<'_>,
+    verified: &Verified,
+    files: &mut S,
+    hosts: &Hosts,
+    kept: &mut RunRecord,
+) -> Result<Outcome, NoMemory>
+    requires hosts { verified.now.hosts ≡ hosts.now.table }
+    requires limits { AreLimits asked.now.settings.limits }
+    requires empty { kept.old ≡ empty_record }
+    ensures { MatchResult result (λ found. FindsIn
+        (seen_files (S.content files.old) (S.faults files.old) (S.faults files.new) (S.overlong files.old) (S.overlong files.new))
+        hosts.now.table kept.new found (job_meant (Job.Races asked.now)) verified.now.program)
+        (λ _. kept.new ≡ empty_record) }
+{
+    match run(alloc, asked, verified, files, hosts, kept) {
+        Ok(()) => find_races(alloc, kept),
+        Err(fault) => unread_input(fault),
+    }
 }
 
 /// Serves a job on a verified program.
@@ -173,6 +253,7 @@ fn serve<S: Files>(
             target: instrument(alloc, verified)?,
         }),
         Job::Replay(asked) => serve_replay(alloc, asked, verified, files, hosts, kept),
+        Job::Races(asked) => serve_races(alloc, asked, verified, files, hosts, kept),
     }
 }
 
@@ -226,7 +307,7 @@ fn file_of<'w>(job: &Job<'w>) -> &'w str
 {
     match job {
         Job::Check { file } | Job::Instrument { file } => file,
-        Job::Replay(asked) => asked.file,
+        Job::Replay(run) | Job::Races(run) => run.file,
     }
 }
 
@@ -241,7 +322,7 @@ fn find<S: Files>(
     ensures { MatchResult result
         (HasCause
         (seen_files (S.content files.old) (S.faults files.old) (S.faults files.new) (S.overlong files.old) (S.overlong files.new))
-        hosts.now.table (map string_bytes words.now) kept.new)
+        hosts.now.table (job_of (map string_bytes words.now)) kept.new)
         (λ _. kept.new ≡ empty_record) }
 {
     kept.clear();
@@ -280,7 +361,7 @@ fn answer<S: Files, K: Sink>(
         (seen_files (S.content files.old) (S.faults files.old) (S.faults files.new) (S.overlong files.old) (S.overlong files.new))
         hosts.now.table
         (seen_sink (K.taken out.old) (K.taken out.new) (K.faults out.old) (K.faults out.new))
-        (map string_bytes words.now) kept.new result }
+        (job_of (map string_bytes words.now)) kept.new result }
 {
     let found = match find(alloc, words, files, hosts, kept) {
         Ok(found) => found,
@@ -294,8 +375,9 @@ fn answer<S: Files, K: Sink>(
 
 /// Serves the commands `check FILE`, which reads and verifies the program of the file and puts how many
 /// functions and instructions it has, `instrument FILE`, which puts the text of its target code instead,
-/// `solo FILE`, which runs it on one native thread and puts the report of that run, and `replay FILE SCHEDULE`,
-/// which first picks the threads of a schedule. `solo` and `replay` take `--input FILE`, `--steps N`, `--turns N` and
+/// `solo FILE`, which runs it on one native thread and puts the report of that run, `replay FILE SCHEDULE`,
+/// which first picks the threads of a schedule, and `races FILE SCHEDULE`, which puts the first data race on each
+/// allocation in that run instead. `solo`, `replay` and `races` take `--input FILE`, `--steps N`, `--turns N` and
 /// `--allocs N`. The program may call the functions of `hosts`.
 ///
 /// First of all it empties `kept`; a run fills it. It does its work in this order: the words, the program's file,
@@ -304,25 +386,29 @@ fn answer<S: Files, K: Sink>(
 ///
 /// | status | when | text |
 /// |---|---|---|
-/// | 0 | the program ran clean, or is accepted | the report, or `accepted: F functions, I instructions`, or the target code |
-/// | 1 | the run had a violation, and no end of a higher rank | the report |
+/// | 0 | the program ran clean, or is accepted | the report or the races, or `accepted: F functions, I instructions`, or the target code |
+/// | 1 | the run had a violation, and no end of a higher rank | the report, or the races |
 /// | 2 | the words are no command's, as `clap` reads them, or a value is out of its form or range | `usage:` with the commands, and `options of` with the options |
 /// | 3 | the text is refused | `not read: FAULT at PLACE` |
 /// | 4 | a rule is broken in the program | `not verified: RULE at PLACE` |
-/// | 5 | a thread trapped, and none reached a limit or found no memory | the report |
-/// | 6 | a thread reached the limit of steps or of turns, and none found no memory | the report |
+/// | 5 | a thread trapped, and none reached a limit or found no memory | the report, or the races |
+/// | 6 | a thread reached the limit of steps or of turns, and none found no memory | the report, or the races |
 /// | 7 | a read of a file failed, or the file is too long | `read fault: program`, `too long: program`, or the same with `input` |
 /// | 8 | the sink failed | a prefix of the text that was to be put |
-/// | 9 | out of memory | nothing, or the report of a run in which a thread found no memory |
+/// | 9 | out of memory | nothing, or the report or the races of a run in which a thread found no memory |
+/// | 10 | races were asked for, there is one, and the status of the run itself is 0 or 1 | the races |
+///
+/// The races are a line for each, the earlier of its two steps first, then `races N` and `status S`.
 ///
 /// This contract is on the way to one about native threads as well:
 ///
 /// > For every accepted program and input, and however its threads interleave, each allocation's accesses, retags, protector ends and free form one history, ordered by stamps, that holds each thread's calls in program order and once; every reply and verdict is eager Tree Borrows' at that point; the printed reports are exactly the first violations; and the stamped steps merged are a run of the uninstrumented program.
 ///
-/// It claims this sentence for one native thread, under every schedule. After a run `kept` is that of the replay of
-/// the program that was read, with the input that was read, by the schedule and within the limits of the words, and it
-/// is a right record, its erasure included. The text put is the report of `kept`, whose violation lines are the
-/// first violations.
+/// It claims this sentence for one native thread, under every schedule, where a run is made: memory may run out first. After
+/// a run `kept` is that of the replay of the program that was read, with the input that was read, by the schedule and
+/// within the limits of the words, and it is a right record, its erasure included. After `solo` and `replay` the text
+/// that is put is the report of `kept`, whose violation lines are the first violations. After `races` it has a line for
+/// an allocation exactly where two steps on it race in `kept`.
 pub fn bsan_alone<S: Files, K: Sink>(
     alloc: Global,
     words: &[String],
@@ -336,44 +422,44 @@ pub fn bsan_alone<S: Files, K: Sink>(
         (seen_files (S.content files.old) (S.faults files.old) (S.faults files.new) (S.overlong files.old) (S.overlong files.new))
         hosts.now.table
         (seen_sink (K.taken out.old) (K.taken out.new) (K.faults out.old) (K.faults out.new))
-        (map string_bytes words.now) kept.new result }
+        (job_of (map string_bytes words.now)) kept.new result }
 
     // 0: only after a run without violations, or where a program was accepted or its target code made.
-    // 1, 5, 6: only after a run with violations, with a trap, with a limit. The whole text was put.
+    // 1, 5, 6, 10: only after a run with violations, with a trap, with a limit, with a data race. The whole text was put.
     ensures run { RunCause
         (seen_files (S.content files.old) (S.faults files.old) (S.faults files.new) (S.overlong files.old) (S.overlong files.new))
         hosts.now.table
         (seen_sink (K.taken out.old) (K.taken out.new) (K.faults out.old) (K.faults out.new))
-        (map string_bytes words.now) kept.new result }
+        (job_of (map string_bytes words.now)) kept.new result }
 
     // 2: exactly where the words ask for nothing.
-    ensures usage { UsageCause (map string_bytes words.now) result }
+    ensures usage { UsageCause (job_of (map string_bytes words.now)) result }
 
     // 3: exactly where the text is refused, unless the program's file was not read.
     ensures not_read { NotReadCause
         (seen_files (S.content files.old) (S.faults files.old) (S.faults files.new) (S.overlong files.old) (S.overlong files.new))
-        (map string_bytes words.now) result }
+        (job_of (map string_bytes words.now)) result }
 
     // 4: exactly where a rule is broken in the program, unless its file was not read.
     ensures not_verified { NotVerifiedCause
         (seen_files (S.content files.old) (S.faults files.old) (S.faults files.new) (S.overlong files.old) (S.overlong files.new))
-        hosts.now.table (map string_bytes words.now) result }
+        hosts.now.table (job_of (map string_bytes words.now)) result }
 
     // 7: only where a read of the program's file failed or it was too long, or, where the program is accepted, the
     // same of the input's file.
     ensures read_fault { ReadCause
         (seen_files (S.content files.old) (S.faults files.old) (S.faults files.new) (S.overlong files.old) (S.overlong files.new))
-        hosts.now.table (map string_bytes words.now) result }
+        hosts.now.table (job_of (map string_bytes words.now)) result }
 
     // 8: only where the sink failed.
     ensures put_fault { PutCause (seen_sink (K.taken out.old) (K.taken out.new) (K.faults out.old) (K.faults out.new)) result }
 
-    // 9: nothing was put, or the report of a run in which a thread found no memory.
+    // 9: nothing was put, or the whole text of a run in which a thread found no memory.
     ensures memory { MemoryCause
         (seen_files (S.content files.old) (S.faults files.old) (S.faults files.new) (S.overlong files.old) (S.overlong files.new))
         hosts.now.table
         (seen_sink (K.taken out.old) (K.taken out.new) (K.faults out.old) (K.faults out.new))
-        (map string_bytes words.now) kept.new result }
+        (job_of (map string_bytes words.now)) kept.new result }
 
     // 2, 3, 4 and 7 leave no record.
     ensures no_record { LeavesNone kept.new result }
@@ -383,7 +469,7 @@ pub fn bsan_alone<S: Files, K: Sink>(
         (seen_files (S.content files.old) (S.faults files.old) (S.faults files.new) (S.overlong files.old) (S.overlong files.new))
         hosts.now.table
         (seen_sink (K.taken out.old) (K.taken out.new) (K.faults out.old) (K.faults out.new))
-        (map string_bytes words.now) kept.new result }
+        (job_of (map string_bytes words.now)) kept.new result }
 {
     answer(alloc, words, files, out, hosts, kept)
 }

@@ -2,41 +2,41 @@
 use Rattle.std.proofs.Common.{◌≡◌, ◌∙◌, Result, Ok, Err, IfOk, refl, sym, subst, codes}
 use Rattle.clap.specs.Words.{App, Text, app_of, with_rule}
 use Rattle.clap.specs.declared.builder.command.Command.{Command}
-use Rattle.command_words.specs.Commands.{file_app, solo_app, replay_app, plain, needed, with_options, IsReadable}
+use Rattle.command_words.specs.Commands.{file_app, run_app, schedule_app, plain, needed, with_options, IsReadable}
 
 pub file_app_is : (name : Text) → with_rule (plain name) (needed (codes "FILE")) ≡ file_app name
 unfolding file_app
 file_app_is name = refl
 
-pub solo_app_is : with_options (file_app (codes "solo")) ≡ solo_app
-unfolding solo_app
-solo_app_is = refl
+pub run_app_is : (name : Text) → with_options (file_app name) ≡ run_app name
+unfolding run_app
+run_app_is name = refl
 
-pub replay_app_is : with_options (with_rule (file_app (codes "replay")) (needed (codes "SCHEDULE"))) ≡ replay_app
-unfolding replay_app
-replay_app_is = refl
+pub schedule_app_is : (name : Text) → with_options (with_rule (file_app name) (needed (codes "SCHEDULE"))) ≡ schedule_app name
+unfolding schedule_app
+schedule_app_is name = refl
 
 file_readable : (name : Text) → IsReadable (file_app name)
 unfolding file_app
 file_readable name = record { simple = refl; free = refl }
 
-solo_readable : IsReadable solo_app
-unfolding solo_app file_app
-solo_readable = record { simple = refl; free = refl }
+run_readable : (name : Text) → IsReadable (run_app name)
+unfolding run_app file_app
+run_readable name = record { simple = refl; free = refl }
 
-replay_readable : IsReadable replay_app
-unfolding replay_app file_app
-replay_readable = record { simple = refl; free = refl }
+schedule_readable : (name : Text) → IsReadable (schedule_app name)
+unfolding schedule_app file_app
+schedule_readable name = record { simple = refl; free = refl }
 
 -- the same at a command that was built
 pub file_command_readable : (made : App) (name : Text) → made ≡ file_app name → IsReadable made
 file_command_readable made name is = subst IsReadable (sym is) (file_readable name)
 
-pub solo_command_readable : (made : App) → made ≡ solo_app → IsReadable made
-solo_command_readable made is = subst IsReadable (sym is) solo_readable
+pub run_command_readable : (made : App) (name : Text) → made ≡ run_app name → IsReadable made
+run_command_readable made name is = subst IsReadable (sym is) (run_readable name)
 
-pub replay_command_readable : (made : App) → made ≡ replay_app → IsReadable made
-replay_command_readable made is = subst IsReadable (sym is) replay_readable
+pub schedule_command_readable : (made : App) (name : Text) → made ≡ schedule_app name → IsReadable made
+schedule_command_readable made name is = subst IsReadable (sym is) (schedule_readable name)
 
 -- a command whose words are read alike
 pub made_as : {E : Type 0} (made : Result Command E) (app other : App) → app ≡ other → IfOk made (λ command. app_of command ≡ app)

@@ -6,11 +6,11 @@ use Rattle.std.specs.Cmp.Lexicographic.{bytes_decides}
 use Rattle.std.proofs.lemmas.Bool.{false_from_ne_true}
 use Rattle.clap.specs.Words.{App, Row, Text, Kinds, matches_of}
 use Rattle.clap.specs.Faults.{fault_of}
-use Rattle.command_words.specs.Jobs.{Job, unless_fault, said_by, file_by, solo_by, replay_by, job_of}
-use Rattle.command_words.specs.Jobs.Job.{Check, Instrument}
+use Rattle.command_words.specs.Jobs.{ScheduledRun, Job, unless_fault, said_by, file_by, solo_by, scheduled_by, job_of}
+use Rattle.command_words.specs.Jobs.Job.{Check, Instrument, Replay, Races}
 use Rattle.command_words.specs.Commands.{Takes}
-use Rattle.command_words.specs.Meaning.{job_meant}
-use Rattle.command_words.specs.declared.jobs.Job as rust
+use Rattle.command_words.specs.Meaning.{run_meant}
+use Rattle.command_words.specs.declared.jobs.ScheduledRun as rust
 
 unless_none : {A : Type 0} (kinds : Kinds) (answer : Option A) → kinds ≡ [] → unless_fault kinds answer ≡ answer
 unless_none kinds answer none = ap (λ (k : Kinds). unless_fault k answer) none
@@ -42,30 +42,31 @@ refused_at app made says words is differ = ap (λ (a : App). said_by a says word
 differs : (n m : Text) → (n ≡ m → ⊥) → bytes_eq n m ≡ false
 differs n m ne = false_from_ne_true (bytes_eq n m) (λ e. ne ((bytes_decides n m).0 e))
 
-four : (a b c d : Bool) (x y z w : Option Job) → a ≡ false → b ≡ false → c ≡ false → d ≡ false
-    → cond a x (cond b y (cond c z (cond d w None))) ≡ None
-four a b c d x y z w p q r s = rw (p, q, r, s) refl
+-- the next name is another one
+next : (other : Bool) (x rest : Option Job) → other ≡ false → rest ≡ None → cond other x rest ≡ None
+next other x rest is none = rw is none
 
 unnamed : (name : Text) (rest : List Text) → (name ≡ codes "check" → ⊥) → (name ≡ codes "instrument" → ⊥) → (name ≡ codes "solo" → ⊥)
-    → (name ≡ codes "replay" → ⊥) → job_of (name ∷ rest) ≡ None
+    → (name ≡ codes "replay" → ⊥) → (name ≡ codes "races" → ⊥) → job_of (name ∷ rest) ≡ None
 unfolding job_of
-unnamed name rest check instrument solo replay =
-    four (bytes_eq name (codes "check")) (bytes_eq name (codes "instrument")) (bytes_eq name (codes "solo")) (bytes_eq name (codes "replay"))
-    (option_map Check (file_by (codes "check") (name ∷ rest))) (option_map Instrument (file_by (codes "instrument") (name ∷ rest))) (solo_by (name ∷ rest))
-    (replay_by (name ∷ rest))
-    (differs name (codes "check") check) (differs name (codes "instrument") instrument) (differs name (codes "solo") solo)
-    (differs name (codes "replay") replay)
+unnamed name rest check instrument solo replay races =
+    next (bytes_eq name (codes "check")) (option_map Check (file_by (codes "check") (name ∷ rest))) _ (differs name (codes "check") check)
+    (next (bytes_eq name (codes "instrument")) (option_map Instrument (file_by (codes "instrument") (name ∷ rest))) _ (differs name (codes "instrument") instrument)
+    (next (bytes_eq name (codes "solo")) (option_map Replay (solo_by (name ∷ rest))) _ (differs name (codes "solo") solo)
+    (next (bytes_eq name (codes "replay")) (option_map Replay (scheduled_by (codes "replay") (name ∷ rest))) _ (differs name (codes "replay") replay)
+    (next (bytes_eq name (codes "races")) (option_map Races (scheduled_by (codes "races") (name ∷ rest))) None (differs name (codes "races") races) refl))))
 
 pub no_command : {A : Type 0} (text : A → Text) (words : List A) (first : A) (name : Text) → (let o : Option A = Some first in o) ≡ slice_get words 0 → name ≡ text first
-    → (name ≡ codes "check" → ⊥) → (name ≡ codes "instrument" → ⊥) → (name ≡ codes "solo" → ⊥) → (name ≡ codes "replay" → ⊥) → job_of (map text words) ≡ None
-no_command text [] first name e is check instrument solo replay = absurd cc
-no_command text (w ∷ words) first name e is check instrument solo replay =
+    → (name ≡ codes "check" → ⊥) → (name ≡ codes "instrument" → ⊥) → (name ≡ codes "solo" → ⊥) → (name ≡ codes "replay" → ⊥) → (name ≡ codes "races" → ⊥)
+    → job_of (map text words) ≡ None
+no_command text [] first name e is check instrument solo replay races = absurd cc
+no_command text (w ∷ words) first name e is check instrument solo replay races =
     let same : first ≡ w = cc in
     let named : name ≡ text w = is ∙ ap text same in
-    ap (λ (t : Text). job_of (t ∷ map text words)) (sym named) ∙ unnamed name (map text words) check instrument solo replay
+    ap (λ (t : Text). job_of (t ∷ map text words)) (sym named) ∙ unnamed name (map text words) check instrument solo replay races
 
--- ---- a job that the words ask for by another name
-pub means_as : {E : Type 0} (made : Result rust.Job E) (said other : Option Job) → said ≡ other → IfOk made (λ job. said ≡ Some (job_meant job))
-    → IfOk made (λ job. other ≡ Some (job_meant job))
-means_as (Ok job) said other same is = sym same ∙ is
+-- ---- a run that the words ask for by another name
+pub means_as : {E : Type 0} (made : Result rust.ScheduledRun E) (said other : Option ScheduledRun) → said ≡ other → IfOk made (λ run. said ≡ Some (run_meant run))
+    → IfOk made (λ run. other ≡ Some (run_meant run))
+means_as (Ok run) said other same is = sym same ∙ is
 means_as (Err e) said other same is = tt

@@ -1,5 +1,5 @@
 -- The limits of a run that the words ask for are in their ranges.
-use Rattle.std.proofs.Common.{◌≡◌, ◌≤◌, ◌&&◌, ℕ, Bool, true, false, cond, List, [], ◌∷◌, Option, Some, None, refl, ap, ◌∙◌, arith, nat_le, codes, if◌then◌else◌}
+use Rattle.std.proofs.Common.{◌≡◌, ◌≤◌, ◌&&◌, ℕ, Bool, true, false, cond, List, [], ◌∷◌, Option, Some, None, refl, sym, ap, subst, ◌∙◌, arith, nat_le, codes, if◌then◌else◌}
 use Rattle.std.specs.Option.{option_map, option_map_or, option_and_then}
 use Rattle.std.specs.Str.{bytes_eq}
 use Rattle.std.specs.Str.Parse.{digits_value}
@@ -7,11 +7,10 @@ use Rattle.std.proofs.lemmas.Bool.{leb-true}
 use Rattle.bsan_ids.specs.declared.numbers.Limits.{Limits}
 use Rattle.clap.specs.Words.{App, Row, Text, Kinds, matches_of, first_of}
 use Rattle.clap.specs.Faults.{fault_of}
-use Rattle.command_words.specs.Jobs.{Settings, limit_of, limits_of, settings_of, file_of, replay_of, unless_fault, said_by, file_by, solo_by, replay_by, job_of}
-use Rattle.command_words.specs.Jobs.Job.{Check, Instrument, Replay}
+use Rattle.command_words.specs.Jobs.{Settings, ScheduledRun, Job, scheduled, settings_in, limit_of, limits_of, settings_of, file_of, run_of, schedule_in, unless_fault, said_by, file_by, solo_by, scheduled_by, job_of}
+use Rattle.command_words.specs.Jobs.Job.{Check, Instrument, Replay, Races}
 use Rattle.command_words.specs.Numbers.{has_digits, number_in}
-use Rattle.command_words.specs.Schedules.{schedule_of}
-use Rattle.command_words.specs.Commands.{solo_app, replay_app}
+use Rattle.command_words.specs.Commands.{run_app, schedule_app}
 
 pub record AreInRange (limits : Limits) : Type 0 where
   pub some_steps : 1 ≤ limits.steps
@@ -87,19 +86,18 @@ settings_within rows settings is = by_limits (limits_of rows) refl is
         let same : settings_with (first_of (codes "input") rows) limits ≡ settings = cc in
         limits_within rows settings.limits (are ∙ ap (λ (s : Settings). Some s.limits) same)
 
-replay_within : (schedule : Option (List ℕ)) (rows : List Row) (file : Text) (numbers : List ℕ) (settings : Settings)
-    → replay_of schedule rows ≡ Some (Replay file numbers settings) → AreInRange settings.limits
-replay_within schedule rows file numbers settings is = by_parts (file_of rows) schedule (settings_of rows) refl is
+run_within : (schedule : Option (List ℕ)) (rows : List Row) (run : ScheduledRun) → run_of schedule rows ≡ Some run → AreInRange run.settings.limits
+run_within schedule rows run is = by_parts (file_of rows) schedule (settings_of rows) refl is
   where
     by_parts : (name : Option Text) (picks : Option (List ℕ)) (said : Option Settings) → settings_of rows ≡ said
-        → option_and_then (λ (f : Text). option_and_then (λ (p : List ℕ). option_map (Replay f p) said) picks) name ≡ Some (Replay file numbers settings)
-        → AreInRange settings.limits
+        → option_and_then (λ (f : Text). option_and_then (λ (p : List ℕ). option_map (scheduled f p) said) picks) name ≡ Some run
+        → AreInRange run.settings.limits
     by_parts None picks said are found = absurd cc
     by_parts (Some f) None said are found = absurd cc
     by_parts (Some f) (Some p) None are found = absurd cc
     by_parts (Some f) (Some p) (Some s) are found =
-        let same : s ≡ settings = cc in
-        settings_within rows settings (are ∙ ap (λ (x : Settings). Some x) same)
+        let same : scheduled f p s ≡ run = cc in
+        settings_within rows run.settings (are ∙ ap (λ (r : ScheduledRun). Some r.settings) same)
 
 said : {A : Type 0} (app : App) (says : List Row → Option A) (words : List Text) (x : A) → said_by app says words ≡ Some x → says (matches_of app words) ≡ Some x
 unfolding said_by
@@ -109,34 +107,53 @@ said app says words x is = by_fault (fault_of app words) is
     by_fault [] found = found
     by_fault (kind ∷ kinds) found = absurd cc
 
-not_check : (name : Option Text) (file : Text) (schedule : List ℕ) (settings : Settings) → option_map Check name ≡ Some (Replay file schedule settings) → ⊥
-not_check None file schedule settings is = absurd cc
-not_check (Some x) file schedule settings is = absurd cc
+solo_within : (words : List Text) (run : ScheduledRun) → solo_by words ≡ Some run → AreInRange run.settings.limits
+solo_within words run is =
+    run_within (Some []) (matches_of (run_app (codes "solo")) words) run (said (run_app (codes "solo")) (run_of (Some [])) words run is)
 
-not_instrument : (name : Option Text) (file : Text) (schedule : List ℕ) (settings : Settings) → option_map Instrument name ≡ Some (Replay file schedule settings) → ⊥
-not_instrument None file schedule settings is = absurd cc
-not_instrument (Some x) file schedule settings is = absurd cc
+scheduled_within : (name : Text) (words : List Text) (run : ScheduledRun) → scheduled_by name words ≡ Some run → AreInRange run.settings.limits
+scheduled_within name words run is =
+    run_within (schedule_in (matches_of (schedule_app name) words)) (matches_of (schedule_app name) words) run
+    (said (schedule_app name) (λ rows. run_of (schedule_in rows) rows) words run is)
 
-pub limits_in_range : (words : List Text) (file : Text) (schedule : List ℕ) (settings : Settings) → job_of words ≡ Some (Replay file schedule settings)
-    → AreInRange settings.limits
+-- the settings of a job, where it has a run, have limits in their ranges
+abbrev pub AreWithin : Option Settings → Type 0
+AreWithin None = Unit {0}
+AreWithin (Some settings) = AreInRange settings.limits
+
+-- a job of a command is the command's, and so its settings are
+of_file : (file : Option Text) (make : Text → Job) → ((name : Text) → settings_in (make name) ≡ None) → (job : Job) → option_map make file ≡ Some job
+    → AreWithin (settings_in job)
+of_file None make none job is = absurd cc
+of_file (Some name) make none job is =
+    let same : make name ≡ job = cc in subst AreWithin (sym (none name) ∙ ap settings_in same) tt
+
+of_run : (run : Option ScheduledRun) (make : ScheduledRun → Job) → ((r : ScheduledRun) → settings_in (make r) ≡ Some r.settings)
+    → ((r : ScheduledRun) → run ≡ Some r → AreInRange r.settings.limits) → (job : Job) → option_map make run ≡ Some job → AreWithin (settings_in job)
+of_run None make some within job is = absurd cc
+of_run (Some r) make some within job is =
+    let same : make r ≡ job = cc in subst AreWithin (sym (some r) ∙ ap settings_in same) (within r refl)
+
+pub limits_in_range : (words : List Text) (job : Job) → job_of words ≡ Some job → AreWithin (settings_in job)
 unfolding job_of
-limits_in_range [] file schedule settings is = absurd cc
-limits_in_range (name ∷ rest) file schedule settings is =
-    by_name (bytes_eq name (codes "check")) (bytes_eq name (codes "instrument")) (bytes_eq name (codes "solo")) (bytes_eq name (codes "replay")) is
+limits_in_range [] job is = absurd cc
+limits_in_range (name ∷ rest) job is =
+    by_name (bytes_eq name (codes "check")) (bytes_eq name (codes "instrument")) (bytes_eq name (codes "solo")) (bytes_eq name (codes "replay"))
+    (bytes_eq name (codes "races")) is
   where
-    by_name : (check instrument solo replay : Bool)
+    by_name : (check instrument solo replay races : Bool)
         → (if check then option_map Check (file_by (codes "check") (name ∷ rest))
         else (if instrument then option_map Instrument (file_by (codes "instrument") (name ∷ rest))
-        else (if solo then solo_by (name ∷ rest)
-        else (if replay then replay_by (name ∷ rest)
-        else None)))) ≡ Some (Replay file schedule settings)
-        → AreInRange settings.limits
-    by_name true instrument solo replay found = absurd (not_check (file_by (codes "check") (name ∷ rest)) file schedule settings found)
-    by_name false true solo replay found = absurd (not_instrument (file_by (codes "instrument") (name ∷ rest)) file schedule settings found)
-    by_name false false true replay found =
-        replay_within (Some []) (matches_of solo_app (name ∷ rest)) file schedule settings
-        (said solo_app (replay_of (Some [])) (name ∷ rest) (Replay file schedule settings) found)
-    by_name false false false true found =
-        replay_within (option_and_then schedule_of (first_of (codes "SCHEDULE") (matches_of replay_app (name ∷ rest)))) (matches_of replay_app (name ∷ rest)) file schedule settings
-        (said replay_app (λ rows. replay_of (option_and_then schedule_of (first_of (codes "SCHEDULE") rows)) rows) (name ∷ rest) (Replay file schedule settings) found)
-    by_name false false false false found = absurd cc
+        else (if solo then option_map Replay (solo_by (name ∷ rest))
+        else (if replay then option_map Replay (scheduled_by (codes "replay") (name ∷ rest))
+        else (if races then option_map Races (scheduled_by (codes "races") (name ∷ rest))
+        else None))))) ≡ Some job
+        → AreWithin (settings_in job)
+    by_name true instrument solo replay races found = of_file (file_by (codes "check") (name ∷ rest)) Check (λ n. refl) job found
+    by_name false true solo replay races found = of_file (file_by (codes "instrument") (name ∷ rest)) Instrument (λ n. refl) job found
+    by_name false false true replay races found = of_run (solo_by (name ∷ rest)) Replay (λ r. refl) (solo_within (name ∷ rest)) job found
+    by_name false false false true races found =
+        of_run (scheduled_by (codes "replay") (name ∷ rest)) Replay (λ r. refl) (scheduled_within (codes "replay") (name ∷ rest)) job found
+    by_name false false false false true found =
+        of_run (scheduled_by (codes "races") (name ∷ rest)) Races (λ r. refl) (scheduled_within (codes "races") (name ∷ rest)) job found
+    by_name false false false false false found = absurd cc

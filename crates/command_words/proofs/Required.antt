@@ -19,7 +19,7 @@ use Rattle.clap.specs.declared.builder.range.ValueRange.{ValueRange}
 use Rattle.clap.specs.declared.parser.matches.ArgMatches.{ArgMatches}
 use Rattle.clap.proofs.CallerLemmas.{required_has_value}
 use Rattle.clap.proofs.WalkLemmas.{both, first_value-rows}
-use Rattle.command_words.specs.Commands.{file_app, solo_app, replay_app, needed, optional}
+use Rattle.command_words.specs.Commands.{file_app, run_app, schedule_app, needed, optional}
 
 -- ---- a command whose rules are simple and free excludes nothing
 empty : {X : Type 0} (xs : List X) → is_empty xs ≡ true → xs ≡ []
@@ -202,9 +202,9 @@ file_needed name = record {
 abbrev options : List Rule
 options = optional (codes "input") ∷ optional (codes "steps") ∷ optional (codes "turns") ∷ optional (codes "allocs") ∷ []
 
-pub solo_file_needed : IsNeeded solo_app (codes "FILE")
-unfolding solo_app file_app
-solo_file_needed = record {
+pub run_file_needed : (name : Text) → IsNeeded (run_app name) (codes "FILE")
+unfolding run_app file_app
+run_file_needed name = record {
   before = [];
   rule = needed (codes "FILE");
   after = options;
@@ -222,9 +222,9 @@ solo_file_needed = record {
   capital = omega arith;
 }
 
-pub replay_file_needed : IsNeeded replay_app (codes "FILE")
-unfolding replay_app file_app
-replay_file_needed = record {
+pub schedule_file_needed : (name : Text) → IsNeeded (schedule_app name) (codes "FILE")
+unfolding schedule_app file_app
+schedule_file_needed name = record {
   before = [];
   rule = needed (codes "FILE");
   after = needed (codes "SCHEDULE") ∷ options;
@@ -242,9 +242,9 @@ replay_file_needed = record {
   capital = omega arith;
 }
 
-pub schedule_needed : IsNeeded replay_app (codes "SCHEDULE")
-unfolding replay_app file_app
-schedule_needed = record {
+pub schedule_needed : (name : Text) → IsNeeded (schedule_app name) (codes "SCHEDULE")
+unfolding schedule_app file_app
+schedule_needed name = record {
   before = needed (codes "FILE") ∷ [];
   rule = needed (codes "SCHEDULE");
   after = options;

@@ -25,13 +25,13 @@ with_options app =
 unfoldable pub file_app : Text → App
 file_app name = with_rule (plain name) (needed (codes "FILE"))
 
--- the command `solo FILE`, with options
-unfoldable pub solo_app : App
-solo_app = with_options (file_app (codes "solo"))
+-- the command NAME FILE, with options
+unfoldable pub run_app : Text → App
+run_app name = with_options (file_app name)
 
--- the command `replay FILE SCHEDULE`, with options
-unfoldable pub replay_app : App
-replay_app = with_options (with_rule (file_app (codes "replay")) (needed (codes "SCHEDULE")))
+-- the command NAME FILE SCHEDULE, with options
+unfoldable pub schedule_app : Text → App
+schedule_app name = with_options (with_rule (file_app name) (needed (codes "SCHEDULE")))
 
 -- clap takes the words of the command, its name among them
 abbrev pub Takes : App → List Text → Type 0

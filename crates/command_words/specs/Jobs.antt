@@ -5,7 +5,7 @@ use Rattle.std.specs.Str.{bytes_eq}
 use Rattle.clap.specs.Words.{App, Row, Text, Kinds, matches_of, first_of}
 use Rattle.clap.specs.Faults.{fault_of}
 use Rattle.bsan_ids.specs.declared.numbers.Limits.{Limits}
-use Rattle.command_words.specs.Commands.{file_app, solo_app, replay_app}
+use Rattle.command_words.specs.Commands.{file_app, run_app, schedule_app}
 use Rattle.command_words.specs.Numbers.{number_in}
 use Rattle.command_words.specs.Schedules.{schedule_of}
 
@@ -14,10 +14,24 @@ pub record Settings : Type 0 where
   pub input : Option Text
   pub limits : Limits
 
+-- a run on one native thread: the program's file, the threads to be picked first, and what the options say
+pub record ScheduledRun : Type 0 where
+  pub file : Text
+  pub schedule : List ℕ
+  pub settings : Settings
+
 pub data Job : Type 0 where
   Check : (file : Text) → Job
   Instrument : (file : Text) → Job
-  Replay : (file : Text) (schedule : List ℕ) (settings : Settings) → Job
+  Replay : (run : ScheduledRun) → Job
+  Races : (run : ScheduledRun) → Job
+
+-- what the options say, where the job has a run
+abbrev pub settings_in : Job → Option Settings
+settings_in (Check file) = None
+settings_in (Instrument file) = None
+settings_in (Replay run) = Some run.settings
+settings_in (Races run) = Some run.settings
 
 -- the limit of an option, from 1 on, or what it is where the option isn't there
 abbrev pub limit_of : Text → ℕ → ℕ → List Row → Option ℕ
@@ -38,9 +52,16 @@ settings_of rows = option_map (λ limits. record { input = first_of (codes "inpu
 abbrev pub file_of : List Row → Option Text
 file_of rows = first_of (codes "FILE") rows
 
-abbrev pub replay_of : Option (List ℕ) → List Row → Option Job
-replay_of schedule rows =
-    option_and_then (λ file. option_and_then (λ numbers. option_map (Replay file numbers) (settings_of rows)) schedule) (file_of rows)
+abbrev pub scheduled : Text → List ℕ → Settings → ScheduledRun
+scheduled file schedule settings = record { file = file; schedule = schedule; settings = settings }
+
+-- a run by this schedule
+abbrev pub run_of : Option (List ℕ) → List Row → Option ScheduledRun
+run_of schedule rows =
+    option_and_then (λ file. option_and_then (λ numbers. option_map (scheduled file numbers) (settings_of rows)) schedule) (file_of rows)
+
+abbrev pub schedule_in : List Row → Option (List ℕ)
+schedule_in rows = option_and_then schedule_of (first_of (codes "SCHEDULE") rows)
 
 -- nothing, where clap finds a fault
 abbrev pub unless_fault : {A : Type 0} → Kinds → Option A → Option A
@@ -55,13 +76,13 @@ said_by app says words = unless_fault (fault_of app words) (says (matches_of app
 abbrev pub file_by : Text → List Text → Option Text
 file_by name words = said_by (file_app name) file_of words
 
--- what `solo` asks for: a replay of an empty schedule
-abbrev pub solo_by : List Text → Option Job
-solo_by words = said_by solo_app (replay_of (Some [])) words
+-- the run of the command `solo`, which has an empty schedule
+abbrev pub solo_by : List Text → Option ScheduledRun
+solo_by words = said_by (run_app (codes "solo")) (run_of (Some [])) words
 
-abbrev pub replay_by : List Text → Option Job
-replay_by words =
-    said_by replay_app (λ rows. replay_of (option_and_then schedule_of (first_of (codes "SCHEDULE") rows)) rows) words
+-- the run of the command NAME FILE SCHEDULE
+abbrev pub scheduled_by : Text → List Text → Option ScheduledRun
+scheduled_by name words = said_by (schedule_app name) (λ rows. run_of (schedule_in rows) rows) words
 
 -- what the words ask for: the first is a command's name, and clap takes them as this command's
 unfoldable pub job_of : List Text → Option Job
@@ -69,6 +90,7 @@ job_of [] = None
 job_of (name ∷ rest) =
     if bytes_eq name (codes "check") then option_map Check (file_by (codes "check") (name ∷ rest))
     else (if bytes_eq name (codes "instrument") then option_map Instrument (file_by (codes "instrument") (name ∷ rest))
-    else (if bytes_eq name (codes "solo") then solo_by (name ∷ rest)
-    else (if bytes_eq name (codes "replay") then replay_by (name ∷ rest)
-    else None)))
+    else (if bytes_eq name (codes "solo") then option_map Replay (solo_by (name ∷ rest))
+    else (if bytes_eq name (codes "replay") then option_map Replay (scheduled_by (codes "replay") (name ∷ rest))
+    else (if bytes_eq name (codes "races") then option_map Races (scheduled_by (codes "races") (name ∷ rest))
+    else None))))

@@ -3,13 +3,22 @@ use Rattle.std.specs.Prelude.{map}
 use Rattle.std.specs.Option.{option_map}
 use Rattle.command_words.specs.Jobs as jobs
 use Rattle.command_words.specs.declared.jobs.Job.{Job}
+use Rattle.command_words.specs.declared.jobs.ScheduledRun.{ScheduledRun}
 use Rattle.command_words.specs.declared.jobs.Settings.{Settings}
-use Rattle.command_words.specs.declared.jobs.Job.TheVariants.{Check, Instrument, Replay}
+use Rattle.command_words.specs.declared.jobs.Job.TheVariants.{Check, Instrument, Replay, Races}
 
 abbrev pub settings_meant : Settings → jobs.Settings
 settings_meant settings = record { input = option_map (λ name. name.now) settings.input; limits = settings.limits }
 
+abbrev pub run_meant : ScheduledRun → jobs.ScheduledRun
+run_meant run = record {
+  file = run.file.now;
+  schedule = map (λ pick. pick.0) run.schedule;
+  settings = settings_meant run.settings;
+}
+
 abbrev pub job_meant : Job → jobs.Job
 job_meant (Check file) = jobs.Check file.now
 job_meant (Instrument file) = jobs.Instrument file.now
-job_meant (Replay asked) = jobs.Replay asked.file.now (map (λ pick. pick.0) asked.schedule) (settings_meant asked.settings)
+job_meant (Replay run) = jobs.Replay (run_meant run)
+job_meant (Races run) = jobs.Races (run_meant run)

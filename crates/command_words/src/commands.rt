@@ -50,18 +50,18 @@ pub(crate) fn file_command<'a>(alloc: Global, name: &'a str) -> Result<Command<'
     Ok(command)
 }
 
-/// The command `solo FILE`.
-pub(crate) fn solo_command<'a>(alloc: Global) -> Result<Command<'a>, AllocError>
-    ensures { IfOk result (λ command. app_of command ≡ commands.solo_app) }
+/// The command `NAME FILE`, with options.
+pub(crate) fn run_command<'a>(alloc: Global, name: &'a str) -> Result<Command<'a>, AllocError>
+    ensures { IfOk result (λ command. app_of command ≡ commands.run_app name.entry.now) }
 {
-    with_options(alloc, file_command(alloc, "solo")?)
+    with_options(alloc, file_command(alloc, name)?)
 }
 
-/// The command `replay FILE SCHEDULE`.
-pub(crate) fn replay_command<'a>(alloc: Global) -> Result<Command<'a>, AllocError>
-    ensures { IfOk result (λ command. app_of command ≡ commands.replay_app) }
+/// The command `NAME FILE SCHEDULE`, with options.
+pub(crate) fn schedule_command<'a>(alloc: Global, name: &'a str) -> Result<Command<'a>, AllocError>
+    ensures { IfOk result (λ command. app_of command ≡ commands.schedule_app name.entry.now) }
 {
-    let command = file_command(alloc, "replay")?.arg(needed(alloc, "SCHEDULE"))?;
+    let command = file_command(alloc, name)?.arg(needed(alloc, "SCHEDULE"))?;
     with_options(alloc, command)
 }
 

@@ -2,12 +2,11 @@
 ghost use Rattle.std.specs.Prelude.{◌≡◌, ◌≤◌, true, is_some, map, string_bytes, codes, Some, None, IfOk, IfSome, IsErrOf};
 ghost use Rattle.std.specs.Option.{option_map};
 ghost use Rattle.clap.specs.Words.{first_of, found_of, rows_of};
-ghost use Rattle.command_words.specs.Commands.{file_app};
 ghost use Rattle.command_words.specs.Jobs as jobs;
-ghost use Rattle.command_words.specs.Meaning.{job_meant, settings_meant};
+ghost use Rattle.command_words.specs.Meaning.{job_meant, run_meant, settings_meant};
 
 use crate::WordsFault;
-use crate::commands::{file_command, matched, replay_command, solo_command};
+use crate::commands::{file_command, matched, run_command, schedule_command};
 use crate::numbers::{number_in, schedule};
 use bsan_ids::{Limits, ListOf, ThreadNo};
 use clap::ArgMatches;
@@ -24,7 +23,7 @@ pub struct Settings<'w> {
 
 /// A run on one native thread.
 #[derive(Drop)]
-pub struct Replay<'w> {
+pub struct ScheduledRun<'w> {
     /// The file with the program.
     pub file: &'w str,
     /// The threads to be picked first, in this order. The command `solo` asks for none.
@@ -40,8 +39,10 @@ pub enum Job<'w> {
     Check { file: &'w str },
     /// Make the target code of the program in this file.
     Instrument { file: &'w str },
-    /// Run a program on one native thread.
-    Replay(Replay<'w>),
+    /// Run a program on one native thread, and tell how the run went.
+    Replay(ScheduledRun<'w>),
+    /// Run a program on one native thread, and tell the data races of the run.
+    Races(ScheduledRun<'w>),
 }
 
 /// The limit of an option, from 1 to the most, or its default where the option isn't there.
@@ -93,41 +94,50 @@ fn read_file<'w>(alloc: Global, name: &'w str, words: &'w [String]) -> Result<&'
 }
 
 /// A run of the program in the word FILE, by this schedule and with what the options say.
-fn replayed<'w>(matches: &ArgMatches<'w>, schedule: ListOf<ThreadNo>) -> Result<Job<'w>, WordsFault>
+fn scheduled<'w>(
+    matches: &ArgMatches<'w>,
+    schedule: ListOf<ThreadNo>,
+) -> Result<ScheduledRun<'w>, WordsFault>
     requires { is_some (first_of (codes "FILE") (rows_of (found_of matches.now))) ≡ true }
-    ensures job { IfOk result (λ job.
-        jobs.replay_of (Some (map (λ pick. pick.0) schedule)) (rows_of (found_of matches.now)) ≡ Some (job_meant job)) }
+    ensures run { IfOk result (λ run.
+        jobs.run_of (Some (map (λ pick. pick.0) schedule)) (rows_of (found_of matches.now)) ≡ Some (run_meant run)) }
     ensures refused { IsErrOf result WordsFault.Refused
-        → jobs.replay_of (Some (map (λ pick. pick.0) schedule)) (rows_of (found_of matches.now)) ≡ None }
+        → jobs.run_of (Some (map (λ pick. pick.0) schedule)) (rows_of (found_of matches.now)) ≡ None }
 {
     let file = matches.get_str("FILE").unwrap();
     match options(matches) {
-        Some(settings) => Ok(Job::Replay(Replay {
+        Some(settings) => Ok(ScheduledRun {
             file,
             schedule,
             settings,
-        })),
+        }),
         None => Err(WordsFault::Refused),
     }
 }
 
-/// What the words of the command `solo` ask for.
-fn read_solo<'w>(alloc: Global, words: &'w [String]) -> Result<Job<'w>, WordsFault>
-    ensures job { IfOk result (λ job. jobs.solo_by (map string_bytes words.entry.now) ≡ Some (job_meant job)) }
+/// The run that the words of the command `solo` ask for.
+fn read_solo<'w>(alloc: Global, words: &'w [String]) -> Result<ScheduledRun<'w>, WordsFault>
+    ensures run { IfOk result (λ run. jobs.solo_by (map string_bytes words.entry.now) ≡ Some (run_meant run)) }
     ensures refused { IsErrOf result WordsFault.Refused → jobs.solo_by (map string_bytes words.entry.now) ≡ None }
 {
-    let matches = matched(solo_command(alloc)?, words)?;
-    replayed(&matches, ListOf::new(alloc))
+    let matches = matched(run_command(alloc, "solo")?, words)?;
+    scheduled(&matches, ListOf::new(alloc))
 }
 
-/// What the words of the command `replay` ask for.
-fn read_replay<'w>(alloc: Global, words: &'w [String]) -> Result<Job<'w>, WordsFault>
-    ensures job { IfOk result (λ job. jobs.replay_by (map string_bytes words.entry.now) ≡ Some (job_meant job)) }
-    ensures refused { IsErrOf result WordsFault.Refused → jobs.replay_by (map string_bytes words.entry.now) ≡ None }
+/// The run that the words of the command `NAME FILE SCHEDULE` ask for.
+fn read_scheduled<'w>(
+    alloc: Global,
+    name: &'w str,
+    words: &'w [String],
+) -> Result<ScheduledRun<'w>, WordsFault>
+    ensures run { IfOk result (λ run.
+        jobs.scheduled_by name.now (map string_bytes words.entry.now) ≡ Some (run_meant run)) }
+    ensures refused { IsErrOf result WordsFault.Refused
+        → jobs.scheduled_by name.now (map string_bytes words.entry.now) ≡ None }
 {
-    let matches = matched(replay_command(alloc)?, words)?;
+    let matches = matched(schedule_command(alloc, name)?, words)?;
     let text = matches.get_str("SCHEDULE").unwrap();
-    replayed(&matches, schedule(alloc, text)?)
+    scheduled(&matches, schedule(alloc, text)?)
 }
 
 /// What the words ask for, where they are a command's.
@@ -153,8 +163,9 @@ pub fn read_job<'w>(alloc: Global, words: &'w [String]) -> Result<Job<'w>, Words
         "instrument" => Ok(Job::Instrument {
             file: read_file(alloc, "instrument", words)?,
         }),
-        "solo" => read_solo(alloc, words),
-        "replay" => read_replay(alloc, words),
+        "solo" => Ok(Job::Replay(read_solo(alloc, words)?)),
+        "replay" => Ok(Job::Replay(read_scheduled(alloc, "replay", words)?)),
+        "races" => Ok(Job::Races(read_scheduled(alloc, "races", words)?)),
         _ => Err(WordsFault::Refused),
     }
 }

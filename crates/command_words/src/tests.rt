@@ -1,6 +1,19 @@
-use crate::{Job, WordsFault, read_job};
+use crate::{Job, ScheduledRun, WordsFault, read_job};
 use std::alloc::{AllocError, Global};
 use std::test::Fail;
+
+/// A run: the file, the input, the limits, how many numbers the schedule has, and the last of them.
+fn told_run(alloc: Global, name: &str, run: &ScheduledRun<'_>) -> Result<String, AllocError> {
+    let file = run.file;
+    let input = run.settings.input.unwrap_or("none");
+    let limits = run.settings.limits;
+    let steps = limits.steps;
+    let turns = limits.turns;
+    let allocs = limits.allocs;
+    let picks = run.schedule.len();
+    let last = run.schedule.as_slice().last().map_or(0, |pick| pick.0);
+    format!(in alloc; "{name} {file} {input} {steps} {turns} {allocs} {picks} {last}")
+}
 
 /// What the words of a line ask for, which are separated by single blanks.
 fn told(alloc: Global, line: &str) -> Result<String, AllocError> {
@@ -11,17 +24,8 @@ fn told(alloc: Global, line: &str) -> Result<String, AllocError> {
     match read_job(alloc, words.as_slice()) {
         Ok(Job::Check { file }) => format!(in alloc; "check {file}"),
         Ok(Job::Instrument { file }) => format!(in alloc; "instrument {file}"),
-        Ok(Job::Replay(asked)) => {
-            let file = asked.file;
-            let input = asked.settings.input.unwrap_or("none");
-            let limits = asked.settings.limits;
-            let steps = limits.steps;
-            let turns = limits.turns;
-            let allocs = limits.allocs;
-            let picks = asked.schedule.len();
-            let last = asked.schedule.as_slice().last().map_or(0, |pick| pick.0);
-            format!(in alloc; "replay {file} {input} {steps} {turns} {allocs} {picks} {last}")
-        }
+        Ok(Job::Replay(run)) => told_run(alloc, "replay", &run),
+        Ok(Job::Races(run)) => told_run(alloc, "races", &run),
         Err(WordsFault::Refused) => String::from_str(alloc, "refused"),
         Err(WordsFault::NoMemory) => String::from_str(alloc, "no memory"),
     }
@@ -63,6 +67,11 @@ fn words_are_read(rt: HostRuntime) -> Result<(), Fail> {
         (
             "replay --steps 2 p --input i 7 --turns 3",
             "replay p i 2 3 65536 1 7",
+        ),
+        ("races p 0,1", "races p none 1000000 10000000 65536 2 1"),
+        (
+            "races 3 --input=races --allocs 9 --turns=8 --steps 7 1023",
+            "races 3 races 7 8 9 1 1023",
         ),
     ];
     for (line, want) in taken {
@@ -112,6 +121,11 @@ fn words_are_read(rt: HostRuntime) -> Result<(), Fail> {
         "replay p 1 2",
         "replay p +1",
         "replay p 1;2",
+        "races p",
+        "races p 0,1 --input",
+        "races p 1,1024",
+        "races p 1,",
+        "race p 1",
     ];
     for line in refused {
         assert_eq!(rt; told(alloc, line)?.as_str(), "refused", "{line}");

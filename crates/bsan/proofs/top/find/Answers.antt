@@ -1,7 +1,7 @@
 use Rattle.std.proofs.Common.{map, string_bytes, rules}
 use Rattle.command_words.specs.Meaning.{job_meant}
 use Rattle.bsan.proofs.Found.{refused_in_text}
-use Rattle.bsan.proofs.Running.{has_limits}
+use Rattle.bsan.proofs.Limits.{has_limits}
 use Rattle.bsan.proofs.top.find.Goals as goal
 
 pub judge-requires-clause-limits : goal.judge-requires-clause-limits

@@ -1,0 +1,20 @@
+-- The limits of a run that the words ask for are in their ranges.
+use Rattle.std.proofs.Common.{◌≡◌, List, Option, Some, None, IfSome, arith}
+use Rattle.command_words.specs.Jobs.{Job, Settings, settings_in, job_of}
+use Rattle.command_words.proofs.Ranges.{AreWithin, limits_in_range}
+use Rattle.core_model.specs.Running.{AreLimits}
+use Rattle.bsan.specs.Words.{Text, HasLimits}
+
+of_settings : (settings : Option Settings) → AreWithin settings → IfSome settings (λ s. AreLimits s.limits)
+of_settings None within = tt
+of_settings (Some settings) within = record {
+  some_steps = omega (arith, within.some_steps);
+  few_steps = within.few_steps;
+  some_turns = omega (arith, within.some_turns);
+  few_turns = within.few_turns;
+  some_allocs = omega (arith, within.some_allocs);
+  few_allocs = within.few_allocs;
+}
+
+pub has_limits : (words : List Text) (job : Job) → job_of words ≡ Some job → HasLimits job
+has_limits words job asked = of_settings (settings_in job) (limits_in_range words job asked)
