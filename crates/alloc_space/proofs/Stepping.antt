@@ -1,7 +1,5 @@
 -- What a step leaves of its desk and of its allocation's log, from what the calls before it say.
-use Rattle.std.proofs.Common.{◌≡◌, ℕ, suc, ◌<◌, ◌≤◌, le_refl, max, Bool, true, false, cond, eqb, leb, Option, Result, Ok, Err, OnOk, OnErr, List, [], ◌∷◌, ◌++◌, append-nil, length, drop, All, sum_by, Some, None, refl, sym, ap, ◌∙◌, subst, inl, inr, arith}
-use lib.Seq.{drop-append_seam}
-use Rattle.std.specs.List.{list_any}
+use Rattle.std.proofs.Common.{◌≡◌, ℕ, ◌<◌, ◌≤◌, le_refl, max, Bool, true, false, cond, eqb, Option, Result, Ok, Err, OnOk, OnErr, List, [], ◌∷◌, ◌++◌, append-nil, All, sum_by, Some, None, refl, sym, ap, ◌∙◌, subst, arith}
 use Rattle.std.proofs.lemmas.List.Sums.{sum_by-cons}
 use Rattle.std.proofs.lemmas.List.Elements.{All-cons, All-nil}
 use Rattle.std.proofs.lemmas.Bool.Decides.{nat_tests}
@@ -17,11 +15,11 @@ use Rattle.history.specs.Merge.{stamp_of}
 use Rattle.history.specs.Restriction.{number_of}
 use Rattle.turn_lock.specs.declared.view.View.{View}
 use Rattle.turn_lock.specs.Weights.{makes, latest}
-use Rattle.turn_lock.specs.Steps.{draws, took, gave, drew_stamp, since_turn, saw, called}
+use Rattle.turn_lock.specs.Steps.{draws, took, gave, drew_stamp, since_turn}
 use Rattle.turn_lock.specs.Plays.{DeskView}
 use Rattle.turn_lock.proofs.Turning.{gave_nothing, gave_stamped, gave_call}
 use Rattle.alloc_state.specs.Log.{Log, has_make}
-use Rattle.alloc_space.specs.Steps.{stamped, has_slot, call_of, IsEntryOf, IsLastOf, IsStamped, IsPastSteps, HasSeen}
+use Rattle.alloc_space.specs.Steps.{stamped, has_slot, IsEntryOf, IsLastOf, IsStamped, IsPastSteps, HasSeen}
 
 -- all entries are at most the latest
 pub all_below : (es : List Entry) (n : ℕ) → latest es < n → All (λ (e : Entry). e.stamp.0 < n) es

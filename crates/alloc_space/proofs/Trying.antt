@@ -1,5 +1,5 @@
 -- Desks of tests.
-use Rattle.std.proofs.Common.{◌≡◌, ℕ, ◌≤◌, ◌<◌, All, Contains, refl, ap, sym, ◌∙◌, subst, None, [], ◌∷◌, ◌++◌, List, cond, ⊎_elim, arith}
+use Rattle.std.proofs.Common.{◌≡◌, ℕ, ◌≤◌, All, Contains, refl, ap, sym, ◌∙◌, subst, [], ◌∷◌, ◌++◌, List, cond, ⊎_elim, arith}
 use Rattle.std.proofs.lemmas.List.Elements.{All-push, All-nil}
 use Rattle.std.proofs.lemmas.Bool.Decides.{eqb_tells}
 use Rattle.bsan_ids.specs.declared.numbers.AllocNo.{AllocNo}
@@ -13,12 +13,11 @@ use Rattle.turn_lock.specs.Plays.{DeskView}
 use Rattle.turn_lock.specs.Rule.{newcomer}
 use Rattle.turn_lock.specs.Steps.{parted, child_of, joins, drew_thread}
 use Rattle.bsan_ids.specs.Lists.{without}
-use Rattle.alloc_space.specs.declared.make.Made.{Made}
 use Rattle.alloc_space.specs.declared.make.Made.TheVariants as made
 use Rattle.alloc_space.specs.Spaces.{SpaceView}
 use Rattle.alloc_space.specs.declared.step.Stepped.{Stepped}
 use Rattle.alloc_space.specs.declared.step.Stepped.TheVariants as stepped
-use Rattle.alloc_space.specs.Steps.{IsStepped, IsStep, IsMade, IsMaking, IsNumbered, numbered}
+use Rattle.alloc_space.specs.Steps.{IsStepped, IsStep, IsMade, IsNumbered, numbered}
 use Rattle.alloc_space.specs.Tried.{AreParentAndChild, IsFirstDesk, IsOpen, IsSameDesk, MayStore}
 
 module _ (limits : Limits) (thread : ThreadNo) (site : ℕ) (alloc : AllocNo) (request : Request) (first old new : DeskView) where

@@ -1,14 +1,14 @@
-use Rattle.std.proofs.Common.{◌≡◌, ℕ, suc, ◌-◌, ◌++◌, ◌∷◌, [], ◌∙◌, ap, sym, refl, arith, subst, true, false}
+use Rattle.std.proofs.Common.{◌≡◌, ℕ, ◌-◌, ◌++◌, ◌∷◌, [], ◌∙◌, ap, sym, arith, true, false}
 use Rattle.history.specs.declared.entry.Entry.{Entry}
 use Rattle.alloc_state.specs.Log.{Log}
 use Rattle.history.specs.Histories.{is_make_step}
 use Rattle.history.specs.Merge.{stamp_of}
 use Rattle.history.specs.Restriction.{number_of}
 use Rattle.turn_lock.specs.Steps.{drew_stamp, took}
-use Rattle.turn_lock.specs.Plays.{DeskView, IsFresh}
+use Rattle.turn_lock.specs.Plays.{DeskView}
 use Rattle.alloc_space.specs.Steps.{has_slot}
 use Rattle.turn_lock.proofs.Turning.{gives_taken, gives_stamped, gives_call}
-use Rattle.alloc_space.proofs.Stepping.{prepared_keeps, seen_desk, past_desk, step_desk, turn_is, entries_below, makes_none, last_of, entry_of, slot_of}
+use Rattle.alloc_space.proofs.Stepping.{prepared_keeps, seen_desk, past_desk, step_desk, entries_below, makes_none, last_of, entry_of, slot_of}
 use Rattle.alloc_space.proofs.space.Space.step_inside.Goals as goal
 
 pub give-requires-clause-turn : goal.give-requires-clause-turn

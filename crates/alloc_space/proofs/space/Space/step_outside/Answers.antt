@@ -1,9 +1,9 @@
-use Rattle.std.proofs.Common.{◌≡◌, ◌∙◌, ap, sym, refl, arith, subst, false}
+use Rattle.std.proofs.Common.{◌∙◌, ap, arith}
 use Rattle.history.specs.declared.entry.Entry.{Entry}
 use Rattle.alloc_state.specs.Log.{Log}
 use Rattle.history.specs.Restriction.{number_of}
 use Rattle.alloc_space.specs.Steps.{has_slot}
-use Rattle.alloc_space.proofs.Stepping.{prepared_keeps, nothing_seen, plain_desk, plain_past, last_of, entry_of}
+use Rattle.alloc_space.proofs.Stepping.{prepared_keeps, nothing_seen, plain_desk, last_of, entry_of}
 use Rattle.alloc_space.proofs.space.Space.step_outside.Goals as goal
 
 pub returns-then-is_err : goal.returns-then-is_err
