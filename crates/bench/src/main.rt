@@ -1,6 +1,6 @@
 //! What is timed and measured from outside: calls of threads on a table of turns, writes on maps of
-//! runs, and steps on an allocation. Without words it says how it is used, and makes 1,000 random
-//! writes on 64 bytes.
+//! runs, parts of a machine, and steps on an allocation. Without words it says how it is used, and makes
+//! 1,000 random writes on 64 bytes.
 #![tactic(auto)]
 
 ghost use Rattle.std.specs.Prelude.{◌≤◌};
@@ -61,9 +61,7 @@ fn loop_of(kind: &str) -> Option<LoopOf> {
 }
 
 /// Tells how many calls a second threads make on a table of turns.
-fn tell_turns(rt: &HostRuntime, alloc: Global, calls: u32) -> Result<(), io::Error>
-    requires { 1 ≤ calls }
-{
+fn tell_turns(rt: &HostRuntime, alloc: Global, calls: u32) -> Result<(), io::Error> {
     for threads in [1, 2, 4] {
         let one = rate(rt, alloc, threads, false, calls)?;
         let each = rate(rt, alloc, threads, true, calls)?;
