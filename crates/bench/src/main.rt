@@ -60,18 +60,6 @@ fn loop_of(kind: &str) -> Option<LoopOf> {
     }
 }
 
-/// Tells how many calls a second threads make on a table of turns.
-fn tell_turns(rt: &HostRuntime, alloc: Global, calls: u32) -> Result<(), io::Error> {
-    for threads in [1, 2, 4] {
-        let one = rate(rt, alloc, threads, false, calls)?;
-        let each = rate(rt, alloc, threads, true, calls)?;
-        let ratio = each.saturating_mul(100) / one.max(1);
-        println!(rt; "threads {threads}: {one} calls a second on one number")?;
-        println!(rt; "threads {threads}: {each} calls a second on a number each, {ratio} to 100")?;
-    }
-    Ok(())
-}
-
 fn main(rt: HostRuntime) -> Result<(), io::Error> {
     let alloc = rt.alloc();
     let words: Vec<String> = env::args(&rt)?.collect(alloc)?;
@@ -85,7 +73,16 @@ fn main(rt: HostRuntime) -> Result<(), io::Error> {
         };
     }
     if kind == "turns" {
-        return tell_turns(&rt, alloc, number);
+        for threads in [1, 2, 4] {
+            let one = rate(&rt, alloc, threads, false, number)?;
+            let each = rate(&rt, alloc, threads, true, number)?;
+            let ratio = each.saturating_mul(100) / one.max(1);
+            println!(rt; "threads {threads}: {one} calls a second on one number")?;
+            println!(rt;
+                "threads {threads}: {each} calls a second on a number each, {ratio} to 100"
+            )?;
+        }
+        return Ok(());
     }
     if let Some(what) = loop_of(kind) {
         return match run(alloc, what, number) {
