@@ -40,10 +40,18 @@ settings_in (Replay run) = Some run.settings
 settings_in (Run run) = Some run.settings
 settings_in (Races run) = Some run.settings
 
--- what one native thread serves of what is asked for
+-- the run on native threads that a job is
+abbrev pub native_in : Job → Option NativeRun
+native_in (Run run) = Some run
+native_in job = None
+
+abbrev pub unless_native : Option NativeRun → Job → Option Job
+unless_native None job = Some job
+unless_native (Some run) job = None
+
+-- what is asked for, where one native thread can serve it
 abbrev pub on_one_thread : Option Job → Option Job
-on_one_thread (Some (Run run)) = None
-on_one_thread asked = asked
+on_one_thread asked = option_and_then (λ job. unless_native (native_in job) job) asked
 
 -- the limit of an option, from 1 on, or what it is where the option isn't there
 abbrev pub limit_of : Text → ℕ → ℕ → List Row → Option ℕ

@@ -56,6 +56,22 @@ pub enum Job<'w> {
     Races(ScheduledRun<'w>),
 }
 
+impl<'w> Job<'w> {
+    ghost use Rattle.std.specs.Option.{option_map};
+    ghost use Rattle.command_words.specs.Jobs as jobs;
+    ghost use Rattle.command_words.specs.Meaning.{job_meant, native_meant};
+
+    /// The run on native threads, where the job is one.
+    pub fn native(&self) -> Option<NativeRun<'w>>
+        ensures { option_map native_meant result ≡ jobs.native_in (job_meant self.now) }
+    {
+        match self {
+            Job::Run(run) => Some(*run),
+            Job::Check { .. } | Job::Instrument { .. } | Job::Replay(_) | Job::Races(_) => None,
+        }
+    }
+}
+
 /// The limit of an option, from 1 to the most, or its default where the option isn't there.
 fn limit(matches: &ArgMatches<'_>, id: &str, most: u64, default: u64) -> Option<u64>
     requires least { 1 ≤ default }
