@@ -25,7 +25,8 @@ use Rattle.target_code.specs.declared.line.Operand.{Operand}
 use Rattle.instrument.specs.Translation.{Scope, slot, for_ptr, operand_of, shadow_of, ret_lines, entry_retag, entry_retags}
 use Rattle.ir_ast.specs.Attributes.{guard_of}
 use Rattle.instrument.specs.Known.{HasRegister}
-use Rattle.thread_machine.specs.Thread.{Thread, TargetFrame, word_of, shadow_at, at_lines, set_shadow, set_result, prov_of, unless_step, passed, has_none, silent, run}
+use Rattle.thread_machine.specs.Thread.{Thread, TargetFrame, word_of, shadow_at, at_lines, set_shadow, set_result, prov_of, unless_step, passed, silent, run}
+use Rattle.thread_parts.specs.Rooms.{has_none}
 use Rattle.instr_sound.specs.Fits.{ParamFits, IsPointerAttr}
 use Rattle.ir_ast.specs.declared.program.Val.{Val}
 use Rattle.std.specs.Prelude.{not}

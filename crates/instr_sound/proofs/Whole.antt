@@ -41,7 +41,8 @@ use Rattle.ir_ast.specs.Attributes.{guard_of}
 use Rattle.instrument.specs.Known.{IsKnown}
 use Rattle.instrument.proofs.Accepted.{accepted_known}
 use Rattle.instrument.proofs.Ends.{each_got}
-use Rattle.thread_machine.specs.Thread.{Row, Thread, row_of, at_lines, with_value, unless_step, passed, has_none, silent, run, go_on, cross, begins_by, thread_begins, thread_site, counted_unless, counted as target_counted, answer_by, thread_answer, thread_start, thread_child}
+use Rattle.thread_machine.specs.Thread.{Row, Thread, row_of, at_lines, with_value, unless_step, passed, silent, run, go_on, cross, begins_by, thread_begins, thread_site, counted_unless, counted as target_counted, answer_by, thread_answer, thread_start, thread_child}
+use Rattle.thread_parts.specs.Rooms.{has_none}
 use Rattle.instr_sound.specs.Fits.{InstFits, ProgramFits}
 use Rattle.instr_sound.specs.Simulation.{SlotsHold, Hidden, image, rest_lines, lines_for, CopiesSome, Beside, Going, SimulatesBy, Simulates, source_setting, target_setting}
 use Rattle.thread_machine.specs.Views.{IsSpawn}

@@ -4,8 +4,9 @@ ghost use Rattle.history.specs.declared.ask.Ask.TheVariants as asked;
 ghost use Rattle.history.specs.Replies.{Answers};
 ghost use Rattle.instrument.specs.Translation.{translation};
 ghost use Rattle.source_sem.specs.Source.{source_ask, source_begins, source_fits, source_site};
+ghost use Rattle.thread_parts.specs.Asks.{AsksAllocation};
 ghost use Rattle.thread_machine.specs.Thread.{thread_ask};
-ghost use Rattle.thread_machine.specs.Views.{IsAddressing, IsSpawn};
+ghost use Rattle.thread_machine.specs.Views.{IsSpawn};
 
 use crate::text::{TextCall, TextStep, TextThread};
 use bsan_ids::NoMemory;
@@ -100,7 +101,7 @@ impl<'p> SoundMachine<'p> {
         ensures source { IfOk result (λ a. a ≡ source_ask (text_of self.now) self.now.state) }
         ensures target { IfOk result (λ a. a ≡ thread_ask self.now.machine.setting self.now.machine.thread) }
         ensures fits { IfOk result AskFits }
-        ensures refused { OnErr result (IsAddressing (source_ask (text_of self.now) self.now.state)) }
+        ensures refused { OnErr result (AsksAllocation (source_ask (text_of self.now) self.now.state)) }
     {
         self.machine.ask()
     }

@@ -4,7 +4,8 @@ ghost use Rattle.history.specs.declared.ask.Ask.TheVariants as asked;
 ghost use Rattle.history.specs.Replies.{Answers};
 ghost use Rattle.instr_sound.specs.Sound.{AskFits, text_of};
 ghost use Rattle.source_sem.specs.Source.{Setting, Source, source_ask, source_begins, source_site, source_turn, source_answer, source_child, source_fits};
-ghost use Rattle.thread_machine.specs.Views.{IsAddressing, IsSpawn};
+ghost use Rattle.thread_parts.specs.Asks.{AsksAllocation};
+ghost use Rattle.thread_machine.specs.Views.{IsSpawn};
 
 use crate::sound::SoundMachine;
 use bsan_ids::NoMemory;
@@ -41,7 +42,7 @@ pub trait Thread: Drop {
     fn ask(&self) -> Result<Ask, NoMemory>
         ensures asks { IfOk result (λ a. a ≡ source_ask (setting self.now) (state self.now)) }
         ensures fits { IfOk result AskFits }
-        ensures refused { OnErr result (IsAddressing (source_ask (setting self.now) (state self.now))) };
+        ensures refused { OnErr result (AsksAllocation (source_ask (setting self.now) (state self.now))) };
 
     /// Takes the memory that the next `turn` or `answer` needs.
     ///

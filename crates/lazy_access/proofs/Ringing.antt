@@ -440,6 +440,12 @@ quiet-there nodes now marks kind span at r idx h b from to =
     (subst (λ (g : Guard). IsQuietSlot g (bool_at marks at) kind (slot_at now at b)) (sym (r.guard at))
     (subst (λ (l : List Slot). IsQuietSlot (node_at nodes at).guard (bool_at marks at) kind (get_or l b no_slot)) (sym (r.bytes at)) (h b from to)))
 
+pub quiet-back : (nodes now : List Node) (marks : List Bool) (kind : Kind) (span : Span) (at : ℕ) → IsRoomier nodes now → get_or marks at false ≡ bool_at marks at → IsQuietNode now (λ _. get_or marks at false) kind span at → IsQuietNode nodes (λ _. bool_at marks at) kind span at
+quiet-back nodes now marks kind span at r idx h b from to =
+    subst (λ (l : Bool). IsQuietSlot (node_at nodes at).guard l kind (slot_at nodes at b)) idx
+    (subst (λ (g : Guard). IsQuietSlot g (get_or marks at false) kind (slot_at nodes at b)) (r.guard at)
+    (subst (λ (l : List Slot). IsQuietSlot (node_at now at).guard (get_or marks at false) kind (get_or l b no_slot)) (r.bytes at) (h b from to)))
+
 pub covered-roomier : (nodes now : List Node) (kind : Kind) (span : Span) (i : ℕ) → IsRoomier nodes now → IsCovered nodes kind span i → IsCovered now kind span i
 covered-roomier nodes now kind span i r covers b from to = subst (λ (l : List Slot). need kind ≤ rank (get_or l b no_slot).level) (sym (r.bytes i)) (covers b from to)
 
@@ -447,6 +453,12 @@ pub pieces-roomier : (before now : List Node) (span : Span) → IsRoomier before
 unfolding pieces
 pieces-roomier before now span r =
     let less = count-within (is_cut now) (is_cut before) (span.start + 1) (span.len - 1) (λ s low high e. sym (cuts-roomier before now s r) ∙ e) in omega (arith, less)
+
+-- one visit is within the ring
+pub ring-one : (nodes : List Node) (path : ℕ → Bool) (span : Span) (old now : ℕ) → 1 ≤ length nodes → now ≤ old + 1 → now ≤ old + ring_of nodes path * pieces nodes span
+unfolding pieces
+ring-one nodes path span old now some one =
+    ring-count-last nodes path span 0 old old now (omega (arith, some)) (ring-count-start nodes path span old) (omega (arith, one))
 
 -- stored or not, by the answer
 pub root-keeps : {A E : Type 0} (r : Result A E) (t u : Shape) → t.nodes ≡ [] → u.root ≡ t.root → u.size ≡ t.size → eager_of u ≡ eager_of t → OnOk r (IsRootAlone t.root t.size u.nodes) → OnErr r (u.nodes ≡ t.nodes) → KeepsQuiet t u × KeepsCuts t u

@@ -62,9 +62,8 @@ pub fn access_at(tree: &mut LazyTree, x: usize, span: Span, kind: Kind) -> Optio
     violation_of(tree, found)
 }
 
-/// An access through a node, on at least one byte of the allocation, after `prepare` for it. A denied
-/// one changes no state; the violation names the least offset with a denial, then the least tag there.
-pub fn access(tree: &mut LazyTree, tag: Tag, span: Span, kind: Kind) -> Option<Violation>
+/// An access that isn't settled.
+fn access_unsettled(tree: &mut LazyTree, tag: Tag, span: Span, kind: Kind) -> Option<Violation>
     requires node { IsTrue (is_node (eager_of tree.old) tag) }
     requires some { 1 ≤ span.len }
     requires within { span.start + span.len ≤ tree.old.size }
@@ -79,5 +78,27 @@ pub fn access(tree: &mut LazyTree, tag: Tag, span: Span, kind: Kind) -> Option<V
     match tree.find(tag) {
         None => None,
         Some(x) => access_at(tree, x, span, kind),
+    }
+}
+
+/// An access through a node, on at least one byte of the allocation, after `prepare` for it. A denied
+/// one changes no state; the violation names the least offset with a denial, then the least tag there.
+pub fn access(tree: &mut LazyTree, tag: Tag, span: Span, kind: Kind) -> Option<Violation>
+    requires node { IsTrue (is_node (eager_of tree.old) tag) }
+    requires some { 1 ≤ span.len }
+    requires within { span.start + span.len ≤ tree.old.size }
+    requires ready { IsReadyFor tree.old (ToAccess tag span kind) }
+    ensures size { tree.new.size ≡ tree.old.size }
+    ensures rises { tree.old.visits ≤ tree.new.visits }
+    ensures answer { (result, eager_of tree.new) ≡ access_of (eager_of tree.old) tag span kind }
+    ensures quiet { result ≡ None → IsQuiet tree.new tag span kind }
+    ensures ring { IsQuiet tree.old tag span kind → tree.new.visits ≤ tree.old.visits + ring_size (links (eager_of tree.old).nodes) tag * pieces tree.old.nodes span }
+    ensures cuts { (s : ℕ) → IsTrue (is_cut tree.new.nodes s) → IsTrue (is_cut tree.old.nodes s) ⊎ ((s ≡ span.start) ⊎ (s ≡ span.start + span.len)) }
+{
+    tree.soundness();
+    if tree.is_settled(tag, span, kind) {
+        None
+    } else {
+        access_unsettled(tree, tag, span, kind)
     }
 }

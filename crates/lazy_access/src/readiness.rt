@@ -1,11 +1,12 @@
 //! The memory for a step, taken before it.
-ghost use Rattle.std.specs.Prelude.{◌≡◌, ℕ, ◌+◌, ◌*◌, ◌<◌, ◌≤◌, length, IsTrue, IsFalse, OnOk, OnErr, MatchOption};
+ghost use Rattle.std.specs.Prelude.{◌≡◌, ℕ, ◌+◌, ◌*◌, ◌<◌, ◌≤◌, length, IsTrue, IsFalse, true, OnOk, OnErr, MatchOption};
 ghost use Rattle.eager_tree.specs.Tree.{links};
 ghost use Rattle.lazy_tree.specs.Quiet.{IsQuiet, KeepsQuiet, KeepsCuts};
 ghost use Rattle.lazy_tree.specs.Ring.{ring_size, pieces};
 ghost use Rattle.lazy_tree.specs.Eager.{eager_of};
 ghost use Rattle.lazy_access.specs.Change.{IsRoomier};
-ghost use Rattle.lazy_access.specs.Requests.{HasWalk, IsChild};
+ghost use Rattle.lazy_access.specs.Requests.{local_in, HasWalk, HasRoom, IsChild};
+ghost use Rattle.lazy_access.specs.Walk.{IsQuietAll, ring_of};
 ghost use Rattle.lazy_access.specs.Ready.{IsReadyToAccess, IsReadyToRetag, IsReadyToEnd, IsReadyFor, KeepsReady, IsWithinRing, Fits};
 
 use crate::check::Access;
@@ -15,8 +16,34 @@ use bsan_ids::{NoMemory, Span, Tag};
 use lazy_tree::{LazyTree, Level, Slot};
 use perm_table::{Guard, Kind, RetagKind, start};
 
-/// Takes all memory for an access. The tree stands for the same eager tree.
-fn prepare_access(tree: &mut LazyTree, tag: Tag, span: Span, kind: Kind) -> Result<(), NoMemory>
+/// Makes room in each node that an access through node `x` may change, and settles the access where it
+/// would change nothing.
+fn reserve_access(tree: &mut LazyTree, x: usize, span: Span, kind: Kind) -> Result<(), NoMemory>
+    requires node { x < length tree.old.nodes }
+    requires within { span.start + span.len ≤ tree.old.size }
+    requires walk { HasWalk tree.old }
+    ensures tree { tree.new ≡ record tree.old { nodes = tree.new.nodes; visits = tree.new.visits } }
+    ensures rises { tree.old.visits ≤ tree.new.visits }
+    ensures same { IsRoomier tree.old.nodes tree.new.nodes }
+    ensures ring { IsQuietAll tree.old.nodes (local_in tree.old.nodes x) kind span → tree.new.visits ≤ tree.old.visits + ring_of tree.old.nodes (local_in tree.old.nodes x) * pieces tree.old.nodes span }
+    ensures room { OnOk result (HasRoom tree.new.nodes x true span kind 2) }
+{
+    let access = Access {
+        node: x,
+        span,
+        kind,
+        below: true,
+    };
+    let changes = reserve_cuts(tree, access, 2)?;
+    if !changes {
+        let tag = tree.tag(x);
+        tree.settle(tag, span, kind);
+    }
+    Ok(())
+}
+
+/// Takes all memory for an access that isn't settled.
+fn prepare_unsettled(tree: &mut LazyTree, tag: Tag, span: Span, kind: Kind) -> Result<(), NoMemory>
     requires within { span.start + span.len ≤ tree.old.size }
     ensures ready { OnOk result (IsReadyToAccess tree.new tag span kind) }
     ensures same { eager_of tree.new ≡ eager_of tree.old }
@@ -31,16 +58,29 @@ fn prepare_access(tree: &mut LazyTree, tag: Tag, span: Span, kind: Kind) -> Resu
     tree.reserve_walk()?;
     tree.soundness();
     match tree.find(tag) {
-        Some(x) => {
-            let access = Access {
-                node: x,
-                span,
-                kind,
-                below: true,
-            };
-            reserve_cuts(tree, access, 2)
-        }
+        Some(x) => reserve_access(tree, x, span, kind),
         None => Ok(()),
+    }
+}
+
+/// Takes all memory for an access. The tree stands for the same eager tree.
+fn prepare_access(tree: &mut LazyTree, tag: Tag, span: Span, kind: Kind) -> Result<(), NoMemory>
+    requires within { span.start + span.len ≤ tree.old.size }
+    ensures ready { OnOk result (IsReadyToAccess tree.new tag span kind) }
+    ensures same { eager_of tree.new ≡ eager_of tree.old }
+    ensures nodes { IsRoomier tree.old.nodes tree.new.nodes }
+    ensures tree { tree.new ≡ record tree.old { nodes = tree.new.nodes; visits = tree.new.visits; marks = tree.new.marks; list_room = tree.new.list_room } }
+    ensures quiet { KeepsQuiet tree.old tree.new }
+    ensures cuts { KeepsCuts tree.old tree.new }
+    ensures rises { tree.old.visits ≤ tree.new.visits }
+    ensures walk { HasWalk tree.old → HasWalk tree.new }
+    ensures ring { IsQuiet tree.old tag span kind → tree.new.visits ≤ tree.old.visits + ring_size (links (eager_of tree.old).nodes) tag * pieces tree.old.nodes span }
+{
+    tree.soundness();
+    if tree.is_settled(tag, span, kind) {
+        tree.reserve_walk()
+    } else {
+        prepare_unsettled(tree, tag, span, kind)
     }
 }
 

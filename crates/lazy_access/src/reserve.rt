@@ -1,6 +1,7 @@
 //! Room made in the nodes that a step may change.
-ghost use Rattle.std.specs.Prelude.{◌≡◌, ◌⊎◌, ℕ, ◌+◌, ◌*◌, ◌<◌, ◌≤◌, length, IsTrue, IsFalse, OnOk, false};
+ghost use Rattle.std.specs.Prelude.{◌≡◌, ◌⊎◌, ℕ, ◌+◌, ◌*◌, ◌<◌, ◌≤◌, length, IsTrue, IsFalse, IfOk, OnOk, false};
 ghost use Rattle.lazy_tree.specs.Skip.{node_at, bool_at, run_after};
+ghost use Rattle.lazy_tree.specs.Quiet.{IsQuietNode};
 ghost use Rattle.lazy_tree.specs.Ring.{pieces};
 ghost use Rattle.lazy_access.specs.Walk.{IsPath, IsMet, IsCovered, IsQuietAll, ring_of};
 ghost use Rattle.lazy_access.specs.Change.{IsRoomier};
@@ -10,6 +11,7 @@ ghost use Rattle.lazy_access.specs.Ends.{HasEndRoomOn, HasEndRoom, runs_from};
 use crate::check::{Access, see_node};
 use crate::ends::implicit;
 use crate::path::{clear_path, goes_below, mark_path, onward};
+use crate::slots::either;
 use bsan_ids::{NoMemory, Span};
 use lazy_tree::{LazyTree, Scratch};
 
@@ -33,13 +35,14 @@ fn reserve_node(
     }
 }
 
-/// Makes room for `runs` more runs in each node that an access may change.
+/// Makes room for `runs` more runs in each node that an access may change, and answers whether it would
+/// change anything.
 fn reserve_marked(
     tree: &mut LazyTree,
     access: Access,
     runs: u32,
     path: &[bool],
-) -> Result<(), NoMemory>
+) -> Result<bool, NoMemory>
     requires node { access.node < length tree.old.nodes }
     requires within { access.span.start + access.span.len ≤ tree.old.size }
     requires path { IsPath tree.old.nodes access.node path.now }
@@ -47,6 +50,7 @@ fn reserve_marked(
     ensures rises { tree.old.visits ≤ tree.new.visits }
     ensures same { IsRoomier tree.old.nodes tree.new.nodes }
     ensures ring { IsTrue access.below → IsQuietAll tree.old.nodes (bool_at path.now) access.kind access.span → tree.new.visits ≤ tree.old.visits + ring_of tree.old.nodes (bool_at path.now) * pieces tree.old.nodes access.span }
+    ensures quiet { IfOk result (λ changes. IsFalse changes → (i : ℕ) → IsMet tree.old.nodes access.node access.below (length tree.old.nodes) i → IsQuietNode tree.old.nodes (bool_at path.now) access.kind access.span i) }
     ensures room { OnOk result ((i : ℕ) → IsMet tree.old.nodes access.node access.below (length tree.old.nodes) i → (runs ≤ (node_at tree.new.nodes i).runs.spare) ⊎ (IsFalse (bool_at path.now i) × IsCovered tree.old.nodes access.kind access.span i)) }
 {
     let Access {
@@ -56,18 +60,21 @@ fn reserve_marked(
         below,
     } = access;
     tree.soundness();
+    let mut changes = false;
     let mut here = Some(0);
     'walk: while let Some(at) = here {
         let local = path[at];
         let seen = see_node(tree, at, span, kind, local);
         reserve_node(tree, at, runs, local, seen.opens)?;
+        changes = either(changes, seen.changes);
         here = onward(tree, at, goes_below(seen.opens, local, below, at, x));
     }
-    Ok(())
+    Ok(changes)
 }
 
-/// Makes room for `runs` more runs in each node that an access may change, with the room of a walk.
-pub fn reserve_cuts(tree: &mut LazyTree, access: Access, runs: u32) -> Result<(), NoMemory>
+/// Makes room for `runs` more runs in each node that an access may change, with the room of a walk, and
+/// answers whether the access would change anything.
+pub fn reserve_cuts(tree: &mut LazyTree, access: Access, runs: u32) -> Result<bool, NoMemory>
     requires node { access.node < length tree.old.nodes }
     requires within { access.span.start + access.span.len ≤ tree.old.size }
     requires walk { HasWalk tree.old }
@@ -75,6 +82,7 @@ pub fn reserve_cuts(tree: &mut LazyTree, access: Access, runs: u32) -> Result<()
     ensures rises { tree.old.visits ≤ tree.new.visits }
     ensures same { IsRoomier tree.old.nodes tree.new.nodes }
     ensures ring { IsTrue access.below → IsQuietAll tree.old.nodes (local_in tree.old.nodes access.node) access.kind access.span → tree.new.visits ≤ tree.old.visits + ring_of tree.old.nodes (local_in tree.old.nodes access.node) * pieces tree.old.nodes access.span }
+    ensures quiet { IfOk result (λ changes. IsFalse changes → IsTrue access.below → IsQuietAll tree.new.nodes (local_in tree.new.nodes access.node) access.kind access.span) }
     ensures room { OnOk result (HasRoom tree.new.nodes access.node access.below access.span access.kind runs) }
 {
     tree.soundness();
@@ -126,10 +134,11 @@ fn reserve_run(tree: &mut LazyTree, x: usize, at: u32, runs: u32) -> Result<(), 
                 kind,
                 below: false,
             };
-            reserve_cuts(tree, access, runs)
+            let _ = reserve_cuts(tree, access, runs)?;
         }
-        None => Ok(()),
+        None => (),
     }
+    Ok(())
 }
 
 /// Makes room in each node that the end of the protector of node `x` may change.

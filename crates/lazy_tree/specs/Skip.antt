@@ -160,10 +160,3 @@ bool_at bs i = slice_index_or bs i true
 -- no mark is set
 abbrev pub IsClear : List Bool → Type 0
 IsClear marks = (i : ℕ) → i < length marks → IsFalse (bool_at marks i)
-
--- what every lazy tree keeps
-pub record IsKept (size : ℕ) (nodes : List Node) (made : Option (Ranges Slot)) (path : List Bool) : Type 0 where
-  pub some : 1 ≤ size
-  pub sound : IsSound size nodes
-  pub ready : (runs : Ranges Slot) → made ≡ Some runs → length runs.bytes ≡ size
-  pub clear : IsClear path

@@ -1,13 +1,14 @@
 //! The tree and its node calls, by which a crate above reads and changes it.
-ghost use Rattle.std.specs.Prelude.{◌≡◌, ℕ, ◌+◌, ◌<◌, ◌≤◌, length, [], None, OnOk, OnErr, IfSome, MatchOption, IsTrue, vec_capacity};
+ghost use Rattle.std.specs.Prelude.{◌≡◌, ◌↔◌, ℕ, ◌+◌, ◌<◌, ◌≤◌, length, [], None, OnOk, OnErr, IfSome, MatchOption, IsTrue, IsFalse, vec_capacity};
 ghost use Rattle.range_map.specs.Ranges.{IsRanges, has_start, with_start};
 ghost use Rattle.eager_tree.specs.Tree.{is_node};
 ghost use Rattle.lazy_tree.specs.Skip.{node_at, slot_at, run_after, with_runs, put_in, with_free, with_child, counted, MayPut, MayAdd, IsRootAlone, IsReady, IsSound, IsClear};
+ghost use Rattle.lazy_tree.specs.Settled.{IsSettled};
 ghost use Rattle.lazy_tree.specs.Eager.{eager_of, state_in};
 
 use crate::slot::{Level, Slot};
 use bsan_ids::{NoMemory, Span, Tag};
-use perm_table::{Guard, Perm};
+use perm_table::{Guard, Kind, Perm};
 use range_map::RangeMap;
 use std::alloc::Global;
 use std::marker::Model;
@@ -25,6 +26,23 @@ struct Node {
     runs: RangeMap<Slot>,
 }
 
+/// An access through a node on a span.
+#[derive(Clone, Copy)]
+struct Settled {
+    tag: Tag,
+    span: Span,
+    kind: Kind,
+}
+
+impl Settled {
+    /// Whether it is this access.
+    fn is(self, tag: Tag, span: Span, kind: Kind) -> bool
+        ensures { IsTrue result ↔ (self ≡ record { tag = tag; span = span; kind = kind }) }
+    {
+        self.tag == tag && self.span == span && self.kind == kind
+    }
+}
+
 /// The tree of tags of an allocation, which stands for an eager tree.
 ///
 /// No node is stored before the first retag. Tags rise along the nodes. The counter rises by one with
@@ -39,6 +57,8 @@ pub struct LazyTree {
     /// The room of a walk, kept from one to the next.
     path: Vec<bool>,
     opened: Vec<usize>,
+    /// An access that changes nothing, until a node changes.
+    settled: Option<Settled>,
     visits: u64,
 }
 
@@ -54,11 +74,11 @@ impl Model for LazyTree {
 
     ghost Value = { Shape };
 
-    ghost use Rattle.lazy_tree.specs.Skip.{IsKept};
+    ghost use Rattle.lazy_tree.specs.Settled.{IsKept};
 
     ghost view = { shape_of };
 
-    ghost invariant = { λ t. IsKept t.size t.nodes.items t.ready t.path.items };
+    ghost invariant = { λ t. IsKept t.root t.size t.nodes.items t.ready t.path.items t.settled };
 }
 
 impl LazyTree {
@@ -77,6 +97,7 @@ impl LazyTree {
             ready: None,
             path: Vec::new(alloc),
             opened: Vec::new(alloc),
+            settled: None,
             visits: 0,
         }
     }
@@ -198,6 +219,7 @@ impl LazyTree {
         ensures by_one { self.new.visits ≤ self.old.visits + 1 }
     {
         self.visits = self.visits.saturating_add(1);
+        self.settled = None;
         let changed = &mut self.nodes[node];
         changed.runs.put(at, slot);
     }
@@ -212,6 +234,7 @@ impl LazyTree {
         ensures starts { (node_at self.new.nodes node).runs.starts ≡ with_start at (node_at self.old.nodes node).runs.starts }
         ensures spare { (node_at self.old.nodes node).runs.spare ≤ (node_at self.new.nodes node).runs.spare + 1 }
     {
+        self.settled = None;
         let changed = &mut self.nodes[node];
         changed.runs.split_at(at);
     }
@@ -224,6 +247,7 @@ impl LazyTree {
         ensures fewer { (s : ℕ) → IsTrue (has_start s (node_at self.new.nodes node).runs.starts) → IsTrue (has_start s (node_at self.old.nodes node).runs.starts) }
         ensures spare { (node_at self.old.nodes node).runs.spare ≤ (node_at self.new.nodes node).runs.spare }
     {
+        self.settled = None;
         let changed = &mut self.nodes[node];
         changed.runs.merge();
     }
@@ -241,6 +265,7 @@ impl LazyTree {
         ensures starts { (node_at self.new.nodes node).runs.starts ≡ (node_at self.old.nodes node).runs.starts }
         ensures spare { (node_at self.old.nodes node).runs.spare ≤ (node_at self.new.nodes node).runs.spare }
     {
+        self.settled = None;
         let changed = &mut self.nodes[node];
         changed.runs.reserve(runs)
     }
@@ -250,7 +275,36 @@ impl LazyTree {
         requires node { node < length self.old.nodes }
         ensures tree { self.new ≡ record self.old { nodes = with_free self.old.nodes node } }
     {
+        self.settled = None;
         self.nodes[node].guard = Guard::Free;
+    }
+
+    /// Keeps in mind, until a node changes, that an access changes nothing and that the nodes of its
+    /// path have room for two more runs.
+    pub fn settle(&mut self, tag: Tag, span: Span, kind: Kind)
+        requires { IsSettled self.old tag span kind }
+        ensures { self.new ≡ self.old }
+    {
+        self.settled = Some(Settled { tag, span, kind });
+    }
+
+    /// Whether an access is known to change nothing, which the counter counts as one run that is read.
+    /// The last one that was settled is, if no node has changed since.
+    pub fn is_settled(&mut self, tag: Tag, span: Span, kind: Kind) -> bool
+        ensures settled { IsTrue result → IsSettled self.old tag span kind }
+        ensures tree { self.new ≡ record self.old { visits = self.new.visits } }
+        ensures told { IsTrue result → self.new ≡ counted self.old }
+        ensures untold { IsFalse result → self.new ≡ self.old }
+        ensures rises { self.old.visits ≤ self.new.visits }
+        ensures by_one { self.new.visits ≤ self.old.visits + 1 }
+    {
+        match self.settled {
+            Some(settled) if settled.is(tag, span, kind) => {
+                self.visits = self.visits.saturating_add(1);
+                true
+            }
+            _ => false,
+        }
     }
 
     /// Lends the room of a walk, to be given back by `return_scratch`. No mark is set.
@@ -368,6 +422,7 @@ impl LazyTree {
         self.nodes.reserve(1)?;
         self.opened.reserve(1)?;
         self.path.resize(1, false)?;
+        self.settled = None;
         self.nodes.push_reserved(Node {
             tag: self.root,
             parent: None,
@@ -415,6 +470,7 @@ impl LazyTree {
         let Some(runs) = self.ready.take() else {
             unreachable!()
         };
+        self.settled = None;
         let count = self.nodes.len();
         let next = self.nodes[parent].next;
         self.nodes[parent].next = Some(count);

@@ -41,21 +41,21 @@ states_set a w (x ∷ xs) (suc k) l h s = (h.0, states_set (suc a) w xs k l h.1 
 
 -- new states --------------------------------------------------------------------------------
 
-fresh_state : (a : ℕ) (w : Counters) → IsState a w (record { number = record { 0 = a }; entries = []; ready = None })
+fresh_state : (a : ℕ) (w : Counters) → IsState a w (record { number = record { 0 = a }; entries = []; ready = None; visits = 0 })
 fresh_state a w = record { number = refl; earlier = All-nil _; undrawn = λ less. refl }
 
 pub fresh_states : (a b : ℕ) (w : Counters) (ls : List Log) (more : ℕ) → b ≡ a + length ls → AreStates a w ls → AreStates a w (ls ++ fresh_from b more)
 fresh_states a b w [] zero is h = tt
 fresh_states a b w [] (suc more) is h =
     let same : b ≡ a = omega (arith, is) in
-    (subst (λ n. IsState a w (record { number = record { 0 = n }; entries = []; ready = None })) (sym same) (fresh_state a w), fresh_states (suc a) (suc b) w [] more (omega (arith, same)) tt)
+    (subst (λ n. IsState a w (record { number = record { 0 = n }; entries = []; ready = None; visits = 0 })) (sym same) (fresh_state a w), fresh_states (suc a) (suc b) w [] more (omega (arith, same)) tt)
 fresh_states a b w (l ∷ ls) more is h = (h.0, fresh_states (suc a) b w ls more (omega (arith, is)) h.1)
 
-pub one_more : (b more : ℕ) → fresh_from b more ++ record { number = record { 0 = b + more }; entries = []; ready = None } ∷ [] ≡ fresh_from b (suc more)
-one_more b zero = ap (λ n. record { number = record { 0 = n }; entries = []; ready = None } ∷ []) (omega arith)
+pub one_more : (b more : ℕ) → fresh_from b more ++ record { number = record { 0 = b + more }; entries = []; ready = None; visits = 0 } ∷ [] ≡ fresh_from b (suc more)
+one_more b zero = ap (λ n. record { number = record { 0 = n }; entries = []; ready = None; visits = 0 } ∷ []) (omega arith)
 one_more b (suc more) =
-    let first : Log = record { number = record { 0 = b }; entries = []; ready = None } in
-    ap (λ n. first ∷ (fresh_from (suc b) more ++ record { number = record { 0 = n }; entries = []; ready = None } ∷ [])) (omega arith)
+    let first : Log = record { number = record { 0 = b }; entries = []; ready = None; visits = 0 } in
+    ap (λ n. first ∷ (fresh_from (suc b) more ++ record { number = record { 0 = n }; entries = []; ready = None; visits = 0 } ∷ [])) (omega arith)
     ∙ ap (λ l. first ∷ l) (one_more (suc b) more)
 
 pub long_fresh : (b more : ℕ) → length (fresh_from b more) ≡ more
@@ -116,13 +116,13 @@ named_more (x ∷ xs) l = ap (λ logs. with_named x.number.0 x.entries logs) (na
 -- one more state of a number that was never asked --------------------------------------------------------
 
 pub grows_by : (number : ℕ) (old mid new : List Log) (l : Log) → IsLonger number old mid → new ≡ mid ++ l ∷ [] → length mid < number
-    → l ≡ record { number = record { 0 = length mid + 1 }; entries = []; ready = None } → IsLonger number old new
+    → l ≡ record { number = record { 0 = length mid + 1 }; entries = []; ready = None; visits = 0 } → IsLonger number old new
 grows_by number old mid new l h added less fresh =
     let b = length old + 1 in
     let long : length mid ≡ length old + h.more = ap (length {A = Log}) h.added ∙ length-append old (fresh_from b h.more) ∙ (let f = long_fresh b h.more in omega (arith, f)) in
     let longer : length new ≡ length mid + 1 = ap (length {A = Log}) added ∙ length-append mid (l ∷ []) in
-    let next : Log = record { number = record { 0 = b + h.more }; entries = []; ready = None } in
-    let last : l ≡ next = fresh ∙ ap (λ n. record { number = record { 0 = n }; entries = []; ready = None }) (omega (arith, long)) in
+    let next : Log = record { number = record { 0 = b + h.more }; entries = []; ready = None; visits = 0 } in
+    let last : l ≡ next = fresh ∙ ap (λ n. record { number = record { 0 = n }; entries = []; ready = None; visits = 0 }) (omega (arith, long)) in
     record {
       more = suc h.more;
       added = added ∙ ap (λ (m : List Log). m ++ l ∷ []) h.added ∙ append_assoc old (fresh_from b h.more) (l ∷ []) ∙ ap (λ (x : Log). old ++ (fresh_from b h.more ++ x ∷ [])) last ∙ ap (λ (m : List Log). old ++ m) (one_more b h.more);

@@ -86,8 +86,8 @@ module _ (limits : Limits) (w : Counters) (ls ms : List Log) (k : ℕ) (l : Log)
 
   entry_is : (thread : ThreadNo) (site : ℕ) (r : Request) → entry_of l w thread site r ≡ entry_on before thread site (record { 0 = suc k }) r
   entry_is thread site r =
-      ap (λ (n : AllocNo). entry_of (record { number = n; entries = l.entries; ready = l.ready }) w thread site r) this_number
-      ∙ ap (λ (es : List Entry). entry_of (record { number = record { 0 = suc k }; entries = es; ready = l.ready }) w thread site r) this_log
+      ap (λ (n : AllocNo). entry_of (record { number = n; entries = l.entries; ready = l.ready; visits = l.visits }) w thread site r) this_number
+      ∙ ap (λ (es : List Entry). entry_of (record { number = record { 0 = suc k }; entries = es; ready = l.ready; visits = l.visits }) w thread site r) this_log
 
   pub asks_on : (v : Counters) (m : Log) (thread : ThreadNo) (site : ℕ) (r : Request) (step : Step)
       → StepsOn l w limits.steps thread site r m v step → Asks before thread site (record { 0 = suc k }) r (behind m v) step
@@ -183,10 +183,10 @@ no_log limits ls a few (inl zero_is) = ap (log_at (logs_in ls)) zero_is
 no_log limits ls a few (inr above) = log_past (logs_in ls) a (let long : length (logs_in ls) ≡ length ls = length-map ls (λ (l : Log). l.entries) in omega (arith, long, few, above))
 
 module _ (limits : Limits) (w v : Counters) (ls : List Log) (few : length ls ≤ limits.allocs) (a : AllocNo) (off : (a.0 ≡ 0) ⊎ (limits.allocs < a.0)) where
-  aside_on : (m : Log) (thread : ThreadNo) (site : ℕ) (r : Request) (step : Step) → StepsOn (record { number = a; entries = []; ready = None }) w limits.steps thread site r m v step
+  aside_on : (m : Log) (thread : ThreadNo) (site : ℕ) (r : Request) (step : Step) → StepsOn (record { number = a; entries = []; ready = None; visits = 0 }) w limits.steps thread site r m v step
       → Asks (memory_in limits w ls) thread site a r (memory_in limits v ls) step
   aside_on m thread site r (Done e) s = (
-    s.0 ∙ ap (λ (es : List Entry). entry_of (record { number = a; entries = es; ready = None }) w thread site r) (sym (no_log limits ls a.0 few off)),
+    s.0 ∙ ap (λ (es : List Entry). entry_of (record { number = a; entries = es; ready = None; visits = 0 }) w thread site r) (sym (no_log limits ls a.0 few off)),
     record { within = s.1; limits = refl; logs = λ b. rw (beside limits a.0 off) refl; words_are = s.3 },
   )
   aside_on m thread site r (Ends (log_end.StepLimit x)) s = (s.0, s.1, record { limits = refl; logs = λ b. refl; words_are = s.3 })

@@ -52,7 +52,7 @@ TableAfter limits words number request states (Ends why) = IsTable limits words 
 -- states of numbers that were never asked, from a on
 abbrev pub fresh_from : ℕ → ℕ → List Log
 fresh_from a zero = []
-fresh_from a (suc more) = record { number = record { 0 = a }; entries = []; ready = None } ∷ fresh_from (suc a) more
+fresh_from a (suc more) = record { number = record { 0 = a }; entries = []; ready = None; visits = 0 } ∷ fresh_from (suc a) more
 
 -- states were added, up to a number
 pub record IsLonger (number : ℕ) (old new : List Log) : Type 0 where
@@ -99,7 +99,7 @@ named_in (l ∷ ls) = with_named l.number.0 l.entries (named_in ls)
 -- a step on a number that was never asked, and isn't kept
 abbrev pub StepsAside : Counters → ℕ → ThreadNo → ℕ → AllocNo → Request → Counters → Step → Type 0
 StepsAside words steps thread site number request after step =
-    (new : Log) × StepsOn (record { number = number; entries = []; ready = None }) words steps thread site request new after step
+    (new : Log) × StepsOn (record { number = number; entries = []; ready = None; visits = 0 }) words steps thread site request new after step
 
 abbrev pub is_out_of_memory : Step → Bool
 is_out_of_memory (Ends NoMemory) = true

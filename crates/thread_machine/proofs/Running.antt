@@ -9,7 +9,8 @@ use Rattle.thread_parts.specs.Owned.{release_ask}
 use Rattle.target_code.specs.declared.line.Line.{Line}
 use Rattle.target_code.specs.declared.line.Line.TheVariants as line
 use Rattle.thread_machine.specs.Views.{FitsRow, entered}
-use Rattle.thread_machine.specs.Thread.{Thread, at_lines, passed, with_value, unless_step, has_none, silent, run, cross_by, cross}
+use Rattle.thread_machine.specs.Thread.{Thread, at_lines, passed, with_value, unless_step, silent, run, cross_by, cross}
+use Rattle.thread_parts.specs.Rooms.{has_none}
 
 abbrev with_rest : List Line → Option Thread → Option Thread
 with_rest r o = option_map (λ u. at_lines u r) o

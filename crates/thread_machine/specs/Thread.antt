@@ -28,6 +28,7 @@ use Rattle.thread_parts.specs.Words.{blank, plain_arg, at_width, number_in}
 use Rattle.ir_ast.specs.Words.{bits}
 use Rattle.thread_parts.specs.Parts.{Part, Gives, Fails, Steps, Accesses, Prints, Spawns, Loads, Stores, Modifies, Compares, Frees, part_ask, retag_ask, binary_part, compared, chosen, cast_arg, input_arg, make_part, makes_step, host_part, join_part}
 use Rattle.thread_parts.specs.Copies.{Progress, untouched, copy_ask, copy_after, copy_done}
+use Rattle.thread_parts.specs.Rooms.{has_none}
 use Rattle.thread_parts.specs.Owned.{Owned, nothing_owned, release_ask, released, protect, Made, with_stack}
 use Rattle.bsan_ids.specs.Lists.{without}
 
@@ -148,10 +149,6 @@ with_value other t s = None
 abbrev pub unless_step : Bool → Thread → ℕ → ℕ → Option Thread
 unless_step true t to from = None
 unless_step false t to from = Some (set_shadow t to (prov_of t.top from))
-
-abbrev pub has_none : Option Ask → Bool
-has_none None = true
-has_none (Some a) = false
 
 -- The thread after a line that makes no step, meets no trap and leads to the line after it; none after any other line.
 -- The bytes of a copy are copied with its check.

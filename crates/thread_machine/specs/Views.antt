@@ -20,8 +20,7 @@ use Rattle.word_ops.specs.declared.WordTrap.TheVariants.{DivZero, ShiftTooFar}
 use Rattle.thread_parts.specs.Words.{plain_arg}
 use Rattle.thread_parts.specs.Parts.{Part, Gives, Fails, makes_step}
 use Rattle.thread_parts.specs.Copies.{Progress, untouched}
-use Rattle.thread_parts.specs.Owned.{Owned, Made, nothing_owned}
-use Rattle.thread_machine.specs.declared.owned.StackAllocation.{StackAllocation}
+use Rattle.thread_parts.specs.Owned.{nothing_owned}
 use Rattle.thread_machine.specs.Thread.{TargetSetting, Row, empty_row, TargetFrame, Thread, at_lines, first_lines, frame_at, turn_number}
 
 -- ---- what there is memory for
@@ -30,13 +29,6 @@ use Rattle.thread_machine.specs.Thread.{TargetSetting, Row, empty_row, TargetFra
 pub record WideRow : Type 0 where
   pub row : Row
   pub width : ℕ
-
--- what a frame owns, and how many more of each fit
-pub record RoomyOwned : Type 0 where
-  pub owned : Owned
-  pub children : ℕ
-  pub protectors : ℕ
-  pub stack : ℕ
 
 -- how far a copy has come, and whether a piece fits
 pub record RoomyCopy : Type 0 where
@@ -101,9 +93,6 @@ abbrev pub part_of : Result ℕ WordTrap → Part
 part_of (Ok n) = Gives (Some (plain_arg n))
 part_of (Err DivZero) = Fails trap.DivZero
 part_of (Err ShiftTooFar) = Fails trap.ShiftTooFar
-
-abbrev pub made_of : StackAllocation → Made
-made_of s = record { number = s.number; prov = s.prov }
 
 -- the piece that was read and not yet written
 abbrev pub half_of : Bool → Option (List Byte) → Option (List Byte)
@@ -182,11 +171,6 @@ called t f = record t { top = record f { handed = t.row; owned = nothing_owned }
 abbrev pub IsSpawn : Ask → Type 0
 IsSpawn (ask.Spawn k) = Unit {0}
 IsSpawn other = ⊥
-
--- an allocation is to be addressed
-abbrev pub IsAddressing : Ask → Type 0
-IsAddressing (ask.At a r) = Unit {0}
-IsAddressing other = ⊥
 
 -- ---- replies
 

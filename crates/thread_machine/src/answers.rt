@@ -8,13 +8,13 @@ ghost use Rattle.thread_machine.specs.Thread.{answer_by, copy_answer, counted, f
 ghost use Rattle.thread_machine.specs.Ready.{HasProtector, HasRoom, HasStack};
 ghost use Rattle.thread_machine.specs.Views.{CallersFit, FitsRow, HasNumber, IsMade, IsSpawned};
 
-use crate::owned::StackAllocation;
 use crate::state::ThreadState;
 use bsan_ids::{AllocNo, ThreadNo};
 use history::{Arg, MachineEnd, Plain, Reply};
 use ir_ast::{Place, Ty};
 use perm_table::Guard;
 use target_code::{Line, Operand};
+use thread_parts::StackAllocation;
 
 /// The number in a reply, and 0 where there is none.
 fn number_in_reply(plain: &Plain) -> u64

@@ -1,47 +1,36 @@
 //! What a thread asks.
-ghost use Rattle.std.specs.Prelude.{List, ◌≡◌, ◌+◌, ◌-◌, ◌*◌, ◌%◌, ◌^◌, min, [], ◌∷◌, drop, Some, None, IfOk, OnErr, IfSome, IfNone};
+ghost use Rattle.std.specs.Prelude.{List, ◌≡◌, [], ◌∷◌, drop, IfOk, OnErr, IfSome, IfNone};
 ghost use Rattle.history.specs.declared.ask.Ask.TheVariants as asked;
 ghost use Rattle.history.specs.declared.ask.MachineEnd.TheVariants as ending;
-ghost use Rattle.ir_ast.specs.Sizes.{most_size_of};
 ghost use Rattle.thread_parts.specs.Parts.{binary_part, make_part, nth_value, part_ask, retag_ask as asked_retag};
-ghost use Rattle.thread_parts.specs.Copies.{copy_ask, piece_at};
-ghost use Rattle.thread_parts.specs.Words.{number_at};
+ghost use Rattle.thread_parts.specs.Asks.{AsksAllocation};
 ghost use Rattle.thread_machine.specs.Thread.{free_part, lines_ask, operand_at, operands_at, pointer_at, read_part, version_ask, write_part};
-ghost use Rattle.thread_machine.specs.Views.{IsAddressing, IsPlainLine};
+ghost use Rattle.thread_machine.specs.Views.{IsPlainLine};
 
-use crate::addresses::{number_of, offset_of};
 use crate::frame::Frame;
 use crate::state::ThreadState;
 use crate::words::{cut, work};
-use bsan_ids::{AllocNo, NoMemory, Prov, ThreadNo};
+use bsan_ids::{AllocNo, NoMemory, Prov, ThreadNo, parts};
 use history::{Arg, Ask, MachineEnd, Request, Trap};
-use ir_ast::{BinaryOp, Place, Ty, Width};
+use ir_ast::{BinaryOp, Place, Ty, Width, most_size_of};
 use perm_table::{Guard, RetagKind};
 use std::alloc::Global;
 use target_code::{Line, Operand};
 use word_ops::WordTrap;
 
-/// The most bytes that an allocation may have in code of a version.
-fn most_size(version: u8) -> u64
-    ensures { result ≡ most_size_of version }
-{
-    if version >= 2 { 1_048_576 } else { 65_536 }
-}
-
 /// Asks for a retag.
 fn retag_ask(pointer: Arg, kind: RetagKind, guard: Guard, size: u32) -> Ask
     ensures { result ≡ asked_retag pointer kind guard size }
 {
-    Ask::At {
-        alloc: number_of(pointer.value),
-        request: Request::Retag {
-            at: offset_of(pointer.value),
-            len: size,
-            kind,
-            guard,
-            prov: pointer.prov,
-        },
-    }
+    let (alloc, at) = parts(pointer.value);
+    let request = Request::Retag {
+        at,
+        len: size,
+        kind,
+        guard,
+        prov: pointer.prov,
+    };
+    Ask::At { alloc, request }
 }
 
 /// The thread ends in this trap.
@@ -83,14 +72,13 @@ impl<'p> Frame<'p> {
         match self.line_after() {
             Some(Line::Load { ty, ptr, .. }) => {
                 let pointer = self.pointer(*ptr, shadow);
-                Ask::At {
-                    alloc: number_of(pointer.value),
-                    request: Request::Load {
-                        at: offset_of(pointer.value),
-                        ty: *ty,
-                        prov: pointer.prov,
-                    },
-                }
+                let (alloc, at) = parts(pointer.value);
+                let request = Request::Load {
+                    at,
+                    ty: *ty,
+                    prov: pointer.prov,
+                };
+                Ask::At { alloc, request }
             }
             _ => ended(Trap::Unreachable),
         }
@@ -103,14 +91,13 @@ impl<'p> Frame<'p> {
         match self.line_after() {
             Some(Line::Free { ptr }) => {
                 let pointer = self.pointer(*ptr, shadow);
-                Ask::At {
-                    alloc: number_of(pointer.value),
-                    request: Request::Free {
-                        at: offset_of(pointer.value),
-                        stack: false,
-                        prov: pointer.prov,
-                    },
-                }
+                let (alloc, at) = parts(pointer.value);
+                let request = Request::Free {
+                    at,
+                    stack: false,
+                    prov: pointer.prov,
+                };
+                Ask::At { alloc, request }
             }
             _ => ended(Trap::Unreachable),
         }
@@ -123,20 +110,19 @@ impl<'p> Frame<'p> {
         match self.line_after() {
             Some(Line::Store { ty, value, ptr }) => {
                 let pointer = self.pointer(*ptr, shadow);
+                let (alloc, at) = parts(pointer.value);
                 let carried = match ty {
                     Ty::Int(_) => None,
                     Ty::Ptr => stored,
                 };
-                Ask::At {
-                    alloc: number_of(pointer.value),
-                    request: Request::Store {
-                        at: offset_of(pointer.value),
-                        ty: *ty,
-                        value: cut(*ty, self.operand(*value)),
-                        carried,
-                        prov: pointer.prov,
-                    },
-                }
+                let request = Request::Store {
+                    at,
+                    ty: *ty,
+                    value: cut(*ty, self.operand(*value)),
+                    carried,
+                    prov: pointer.prov,
+                };
+                Ask::At { alloc, request }
             }
             Some(
                 Line::Modify {
@@ -148,16 +134,15 @@ impl<'p> Frame<'p> {
                 },
             ) => {
                 let pointer = self.pointer(*ptr, shadow);
-                Ask::At {
-                    alloc: number_of(pointer.value),
-                    request: Request::Modify {
-                        at: offset_of(pointer.value),
-                        width: *width,
-                        op: *op,
-                        value: cut(Ty::Int(*width), self.operand(*value)),
-                        prov: pointer.prov,
-                    },
-                }
+                let (alloc, at) = parts(pointer.value);
+                let request = Request::Modify {
+                    at,
+                    width: *width,
+                    op: *op,
+                    value: cut(Ty::Int(*width), self.operand(*value)),
+                    prov: pointer.prov,
+                };
+                Ask::At { alloc, request }
             }
             Some(
                 Line::CmpXchg {
@@ -169,16 +154,15 @@ impl<'p> Frame<'p> {
                 },
             ) => {
                 let pointer = self.pointer(*ptr, shadow);
-                Ask::At {
-                    alloc: number_of(pointer.value),
-                    request: Request::CmpXchg {
-                        at: offset_of(pointer.value),
-                        width: *width,
-                        expected: cut(Ty::Int(*width), self.operand(*expected)),
-                        value: cut(Ty::Int(*width), self.operand(*value)),
-                        prov: pointer.prov,
-                    },
-                }
+                let (alloc, at) = parts(pointer.value);
+                let request = Request::CmpXchg {
+                    at,
+                    width: *width,
+                    expected: cut(Ty::Int(*width), self.operand(*expected)),
+                    value: cut(Ty::Int(*width), self.operand(*value)),
+                    prov: pointer.prov,
+                };
+                Ask::At { alloc, request }
             }
             _ => ended(Trap::Unreachable),
         }
@@ -203,7 +187,7 @@ impl<'p> Frame<'p> {
         ensures { result ≡ part_ask (make_part version place (operand_at self.now size)) }
     {
         let bytes = self.operand(size);
-        if bytes == 0 || bytes > most_size(version) {
+        if bytes == 0 || bytes > u64::from(most_size_of(version)) {
             return ended(Trap::BadSize);
         }
         Ask::Make {
@@ -285,7 +269,7 @@ impl<'p> ThreadState<'p> {
     #[tactic(auto, using(crate::proofs::Asked::asks_at, crate::proofs::Asked::asks_nothing, crate::proofs::Asked::asks_over))]
     pub fn ask(&self, version: u8) -> Result<Ask, NoMemory>
         ensures asks { IfOk result (λ a. a ≡ version_ask version self.now.thread) }
-        ensures refused { OnErr result (IsAddressing (version_ask version self.now.thread)) }
+        ensures refused { OnErr result (AsksAllocation (version_ask version self.now.thread)) }
     {
         if let Some(end) = self.over {
             return Ok(Ask::Ended(end));

@@ -1,7 +1,7 @@
 //! A frame that waits for the result of a call.
 use crate::frame::Frame;
-use crate::owned::Owned;
 use std::marker::Model;
+use thread_parts::Owned;
 
 /// A frame with what it must give up at its return.
 #[derive(Drop)]

@@ -1,10 +1,9 @@
 //! How far a copy has come.
-ghost use Rattle.std.specs.Prelude.{◌≡◌, ◌<◌, ◌*◌, ◌^◌, ◌%◌, ◌+◌, ◌-◌, min, true, IfOk, OnErr, OnOk, if◌then◌else◌};
+ghost use Rattle.std.specs.Prelude.{◌≡◌, ◌<◌, ◌*◌, ◌^◌, ◌-◌, min, true, IfOk, OnErr, OnOk, if◌then◌else◌};
 ghost use Rattle.thread_parts.specs.Copies.{copied_of, copy_after, copy_ask, copy_done, piece_at, untouched};
-ghost use Rattle.thread_machine.specs.Views.{IsAddressing};
+ghost use Rattle.thread_parts.specs.Asks.{AsksAllocation};
 
-use crate::addresses::{number_of, offset_of};
-use bsan_ids::NoMemory;
+use bsan_ids::{NoMemory, parts};
 use history::{Arg, Ask, Piece, PieceBuffer, Plain, Request};
 use std::alloc::Global;
 use std::marker::Model;
@@ -41,8 +40,7 @@ fn piece_address(address: u64, pieces: u64) -> u64
 fn piece_len(len: u64, pieces: u64) -> u8
     ensures { result ≡ min 32 (len - 32 * pieces) }
 {
-    let left = len.saturating_sub(pieces.saturating_mul(32));
-    if left < 32 { left as u8 } else { 32 }
+    len.saturating_sub(pieces.saturating_mul(32)).min(32) as u8
 }
 
 /// Puts the piece of a reply into a buffer. It takes no memory.
@@ -89,30 +87,26 @@ impl CopyProgress {
     /// `NoMemory`: out of memory for the piece that is written.
     pub fn ask(&self, to: Arg, from: Arg, len: u64) -> Result<Ask, NoMemory>
         ensures asks { IfOk result (λ a. a ≡ copy_ask to from len self.now.progress) }
-        ensures refused { OnErr result (IsAddressing (copy_ask to from len self.now.progress)) }
+        ensures refused { OnErr result (AsksAllocation (copy_ask to from len self.now.progress)) }
     {
         match &self.buffer {
             Some(half) if self.has_half => {
-                let address = piece_address(to.value, self.pieces);
-                Ok(Ask::At {
-                    alloc: number_of(address),
-                    request: Request::CopyIn {
-                        at: offset_of(address),
-                        piece: half.to_piece()?,
-                        prov: to.prov,
-                    },
-                })
+                let (alloc, at) = parts(piece_address(to.value, self.pieces));
+                let request = Request::CopyIn {
+                    at,
+                    piece: half.to_piece()?,
+                    prov: to.prov,
+                };
+                Ok(Ask::At { alloc, request })
             }
             _ => {
-                let address = piece_address(from.value, self.pieces);
-                Ok(Ask::At {
-                    alloc: number_of(address),
-                    request: Request::CopyOut {
-                        at: offset_of(address),
-                        len: piece_len(len, self.pieces),
-                        prov: from.prov,
-                    },
-                })
+                let (alloc, at) = parts(piece_address(from.value, self.pieces));
+                let request = Request::CopyOut {
+                    at,
+                    len: piece_len(len, self.pieces),
+                    prov: from.prov,
+                };
+                Ok(Ask::At { alloc, request })
             }
         }
     }

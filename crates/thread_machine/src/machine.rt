@@ -3,8 +3,9 @@ ghost use Rattle.std.specs.Prelude.{◌≡◌, ◌<◌, length, IfOk, OnErr, OnO
 ghost use Rattle.history.specs.declared.ask.Ask.TheVariants as asked;
 ghost use Rattle.history.specs.Replies.{Answers};
 ghost use Rattle.thread_parts.specs.Fits.{ReplyFits};
+ghost use Rattle.thread_parts.specs.Asks.{AsksAllocation};
 ghost use Rattle.thread_machine.specs.Thread.{row_of, thread_answer, thread_ask, thread_begins, thread_child, thread_site, thread_start, thread_turn};
-ghost use Rattle.thread_machine.specs.Views.{IsAddressing, IsSpawn, setting};
+ghost use Rattle.thread_machine.specs.Views.{IsSpawn, setting};
 
 use crate::calls::Spare;
 use crate::row::ArgRow;
@@ -93,7 +94,7 @@ impl<'p> Machine<'p> {
     /// `NoMemory`: out of memory for a piece that a copy writes. It comes only where an allocation is addressed.
     pub fn ask(&self) -> Result<Ask, NoMemory>
         ensures asks { IfOk result (λ a. a ≡ thread_ask self.now.setting self.now.thread) }
-        ensures refused { OnErr result (IsAddressing (thread_ask self.now.setting self.now.thread)) }
+        ensures refused { OnErr result (AsksAllocation (thread_ask self.now.setting self.now.thread)) }
     {
         self.state.ask(self.target.version)
     }

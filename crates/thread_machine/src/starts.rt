@@ -7,7 +7,6 @@ ghost use Rattle.thread_machine.specs.Views.{FitsTarget, begun_frame, entry_of, 
 use crate::calls::Spare;
 use crate::copying::CopyProgress;
 use crate::frame::Frame;
-use crate::owned::Owned;
 use crate::row::ArgRow;
 use crate::state::ThreadState;
 use crate::width::target_width;
@@ -15,6 +14,7 @@ use bsan_ids::NoMemory;
 use history::Arg;
 use std::alloc::Global;
 use target_code::{Line, Target};
+use thread_parts::Owned;
 
 /// The lines of a block of a function, none where it isn't there.
 pub(crate) fn block_lines<'p>(target: &'p Target, function: u32, block: u32) -> &'p [Line]

@@ -8,7 +8,6 @@ ghost use Rattle.thread_machine.specs.Views.{row_index, IsWordless, IsShadowless
 use crate::caller::Caller;
 use crate::copying::CopyProgress;
 use crate::frame::Frame;
-use crate::owned::Owned;
 use crate::row::ArgRow;
 use crate::words::{cast, compare, cut, work};
 use bsan_ids::Prov;
@@ -16,6 +15,7 @@ use history::MachineEnd;
 use ir_ast::Ty;
 use std::marker::Model;
 use target_code::Line;
+use thread_parts::Owned;
 
 /// A thread: the newest frame with what it must give up, its callers with the newest last, and what all frames share.
 #[derive(Drop)]

@@ -1,7 +1,7 @@
 //! Local turns.
 ghost use Rattle.std.specs.Prelude.{◌≡◌, ◌+◌, ◌<◌, ◌^◌, drop};
 ghost use Rattle.thread_machine.specs.Thread.{at_lines, branch_lines, branched, counted, lines_turn, word_of};
-ghost use Rattle.thread_machine.specs.Ready.{CallReady, HasRoom, IsReady};
+ghost use Rattle.thread_machine.specs.Ready.{CallReady, HasRoom};
 ghost use Rattle.thread_machine.specs.Views.{CallersFit, FitsRow, FitsTarget, setting};
 
 use crate::calls::Spare;

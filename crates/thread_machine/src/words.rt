@@ -1,5 +1,5 @@
 //! Words at their types.
-ghost use Rattle.std.specs.Prelude.{◌≡◌, Some};
+ghost use Rattle.std.specs.Prelude.{◌≡◌};
 ghost use Rattle.thread_parts.specs.Words.{at_width, plain_arg};
 ghost use Rattle.thread_parts.specs.Parts.{binary_part, cast_arg, compared};
 ghost use Rattle.thread_machine.specs.Views.{part_of};

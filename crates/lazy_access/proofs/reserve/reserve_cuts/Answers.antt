@@ -1,11 +1,12 @@
-use Rattle.std.proofs.Common.{◌≡◌, ◌⊎◌, ◌+◌, ◌*◌, ◌≤◌, ◌<◌, ℕ, false, List, length, Result, Ok, Err, OnOk, sym, ap, subst, arith}
+use Rattle.std.proofs.Common.{◌≡◌, ◌⊎◌, ◌+◌, ◌*◌, ◌≤◌, ◌<◌, ℕ, Bool, true, false, List, length, Result, Ok, Err, IfOk, OnOk, sym, ap, subst, arith}
 use Rattle.lazy_tree.specs.declared.tree.Node.{Node}
 use Rattle.lazy_tree.specs.Shape.{Shape}
 use Rattle.lazy_tree.specs.Skip.{node_at, bool_at, IsSound}
-use Rattle.lazy_access.specs.Walk.{IsPath, IsMet, IsCovered, ring_of}
+use Rattle.lazy_tree.specs.Quiet.{IsQuietNode}
+use Rattle.lazy_access.specs.Walk.{IsPath, IsMet, IsCovered, IsQuietAll, ring_of}
 use Rattle.lazy_access.specs.Requests.{local_in, HasRoom}
 use Rattle.lazy_access.proofs.Visiting.{path-links}
-use Rattle.lazy_access.proofs.Reserving.{room-all}
+use Rattle.lazy_access.proofs.Reserving.{room-all, quiet-all}
 use Rattle.lazy_tree.specs.Ring.{pieces}
 use Rattle.lazy_access.proofs.Ties.{path-eager}
 use Rattle.lazy_access.proofs.Ringing.{times-upto, ring-flags, quiet-flags}
@@ -18,6 +19,10 @@ clear_path-requires-clause-path c =
 on-ok : {A E : Type 0} (P Q : Type 0) (r : Result A E) → (P → Q) → OnOk r P → OnOk r Q
 on-ok P Q (Ok a) f h = f h
 on-ok P Q (Err e) f h = tt
+
+if-ok : {E : Type 0} (P Q : Bool → Type 0) (r : Result Bool E) → ((b : Bool) → P b → Q b) → IfOk r P → IfOk r Q
+if-ok P Q (Ok a) f h = f a h
+if-ok P Q (Err e) f h = tt
 
 pub returns-clause-room : goal.returns-clause-room
 returns-clause-room c =
@@ -48,3 +53,18 @@ returns-clause-ring c = λ all_below all.
     (rw same at c.reserve_marked-made.ensures.ring) all_below (quiet-flags nodes (local_in nodes c.args.access.node) (bool_at c.as_slice.result.now) c.args.access.kind c.args.access.span (λ i lt. sym (flags i lt)) all) in
     let ring = times-upto (ring_of nodes (bool_at c.as_slice.result.now)) (ring_of nodes (local_in nodes c.args.access.node)) (pieces nodes c.args.access.span) (ring-flags nodes (bool_at c.as_slice.result.now) (local_in nodes c.args.access.node) flags c.soundness.ensures.sound.linked) in
     omega (arith, was, is, visited, ring)
+
+pub returns-clause-quiet : goal.returns-clause-quiet
+returns-clause-quiet c =
+    let nodes : List Node = c.args.tree.now.nodes in
+    let same : c.take_scratch-path.new.self.nodes ≡ nodes = ap (λ (t : Shape). t.nodes) c.take_scratch-path.ensures.tree in
+    let last : c.return_scratch.new.self.nodes ≡ c.reserve_marked-made.new.tree.nodes = ap (λ (t : Shape). t.nodes) c.return_scratch.ensures.tree in
+    let path : IsPath c.take_scratch-path.new.self.nodes c.args.access.node c.as_slice.result.now = subst (IsPath c.take_scratch-path.new.self.nodes c.args.access.node) (sym c.as_slice.ensures.value) c.mark_path.ensures.path in
+    if-ok (λ changes. changes ≡ false → (i : ℕ) → IsMet c.take_scratch-path.new.self.nodes c.args.access.node c.args.access.below (length c.take_scratch-path.new.self.nodes) i → IsQuietNode c.take_scratch-path.new.self.nodes (bool_at c.as_slice.result.now) c.args.access.kind c.args.access.span i)
+    (λ changes. changes ≡ false → c.args.access.below ≡ true → IsQuietAll c.return_scratch.new.self.nodes (local_in c.return_scratch.new.self.nodes c.args.access.node) c.args.access.kind c.args.access.span) c.reserve_marked-made.result
+    (λ changes quiet none all.
+    subst (λ (ns : List Node). IsQuietAll ns (local_in ns c.args.access.node) c.args.access.kind c.args.access.span) (sym last)
+    (quiet-all c.args.tree.now.size c.take_scratch-path.new.self.nodes c.reserve_marked-made.new.tree.nodes c.args.access.node c.as_slice.result.now c.args.access.below c.args.access.kind c.args.access.span
+    (subst (λ (ns : List Node). IsSound c.args.tree.now.size ns) (sym same) c.soundness.ensures.sound)
+    (omega (arith, c.requires.node, ap length same)) path c.reserve_marked-made.ensures.same all (quiet none)))
+    c.reserve_marked-made.ensures.quiet

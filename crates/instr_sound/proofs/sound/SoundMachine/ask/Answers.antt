@@ -2,7 +2,7 @@ use Rattle.std.proofs.Common.{◌≡◌, subst}
 use Rattle.std.specs.Prelude.{IfOk, OnErr}
 use Rattle.history.specs.declared.ask.Ask.{Ask}
 use Rattle.source_sem.specs.Source.{source_ask}
-use Rattle.thread_machine.specs.Views.{IsAddressing}
+use Rattle.thread_parts.specs.Asks.{AsksAllocation}
 use Rattle.instr_sound.specs.Sound.{SoundView, sound_view, text_of, AskFits}
 use Rattle.instr_sound.proofs.Keeping.{shows, asks_fit, ok_fits}
 use Rattle.instr_sound.proofs.sound.SoundMachine.ask.Goals as goal
@@ -21,5 +21,5 @@ returns-clause-fits c =
 pub returns-clause-refused : goal.returns-clause-refused
 returns-clause-refused c =
     let view = sound_view c.self.inside.program.now c.self.inside.machine c.self.inside.text.state in
-    subst (λ (z : SoundView). OnErr c.ask.result (IsAddressing (source_ask (text_of z) z.state))) c.self.view_is
-    (subst (λ (z : Ask). OnErr c.ask.result (IsAddressing z)) (shows view c.self.invariant.0).asks c.ask.ensures.refused)
+    subst (λ (z : SoundView). OnErr c.ask.result (AsksAllocation (source_ask (text_of z) z.state))) c.self.view_is
+    (subst (λ (z : Ask). OnErr c.ask.result (AsksAllocation z)) (shows view c.self.invariant.0).asks c.ask.ensures.refused)

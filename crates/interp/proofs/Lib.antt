@@ -1,0 +1,17 @@
+pub mod Advancing
+pub mod Beginning
+pub mod Children
+pub mod Closing
+pub mod Coming
+pub mod Ending
+pub mod Going
+pub mod Growing
+pub mod Histories
+pub mod Joining
+pub mod Keeping
+pub mod Mains
+pub mod Members
+pub mod Replies
+pub mod Reserving
+pub mod Sorting
+pub mod Wholes

@@ -1,0 +1,9 @@
+pub mod Advanced
+pub mod Answers
+pub mod Came
+pub mod Desks
+pub mod Flatten
+pub mod Goes
+pub mod Running
+pub mod Views
+pub mod Wholes
