@@ -1,0 +1,6 @@
+pub mod Texts
+pub mod Reading
+pub mod Places
+pub mod Shown
+pub mod Samples
+pub mod Programs
