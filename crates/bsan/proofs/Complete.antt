@@ -3,8 +3,8 @@ use Rattle.std.proofs.Common.{◌≡◌, ◌≤◌, ◌⊎◌, ℕ, List, length
 use Rattle.std.specs.Io.KnownBytes.{Appends}
 use Rattle.std.specs.Option.{IsSomeAnd, option_and_then}
 use Rattle.outside_io.specs.Reading.{Tells, IsLongerThan}
-use Rattle.command_words.specs.Jobs.{Job, Settings, ScheduledRun, settings_in}
-use Rattle.command_words.specs.Jobs.Job.{Check, Instrument, Replay, Races}
+use Rattle.command_words.specs.Jobs.{Job, Settings, NativeRun, ScheduledRun, settings_in}
+use Rattle.command_words.specs.Jobs.Job.{Check, Instrument, Replay, Run, Races}
 use Rattle.core_model.specs.Kept.{Replayed}
 use Rattle.ir_ast.specs.declared.hosts.HostTable.{HostTable}
 use Rattle.ir_ast.specs.declared.program.Program.{Program}
@@ -19,11 +19,12 @@ use Rattle.target_code.specs.Texts.{target_text}
 use Rattle.target_code.specs.declared.line.Target.{Target}
 use Rattle.history.specs.declared.record.RunRecord.{RunRecord}
 use Rattle.race_check.specs.declared.race.Race.{Race}
+use Rattle.source_sem.specs.Records.{IsRightRecord}
 use Rattle.bsan.specs.Words.{Text, file_in}
 use Rattle.bsan.specs.Seen.{FilesSeen, SinkSeen, Failed, WasTooLong, IsFault, Puts}
 use Rattle.bsan.specs.Seen.Puts.{whole, failed, no_memory}
 use Rattle.bsan.specs.Lines.{accepted_line}
-use Rattle.bsan.specs.Runs.{IsInput, IsScheduledRun}
+use Rattle.bsan.specs.Runs.{IsInput, IsScheduledRun, IsNativeRun}
 use Rattle.bsan.specs.Answer.{OfFile, OfText, OfProgram, OfJob, FindsIn, HasCause, Answers, text_for, status_for}
 use Rattle.bsan.specs.Causes.{IsCutShort, IsUnread, ComesBetween, IsRefused, IsBroken, TellsText, IsGiven, IsGivenInput, HasInput, IsServed, IsComplete}
 use Rattle.bsan.specs.declared.outcome.Role.TheVariants as role
@@ -145,24 +146,28 @@ broken files hosts sink asked kept answer (inl told) tells = by_found told.found
     of_check functions instructions (Check file) finds = unless finds.0
     of_check functions instructions (Instrument file) finds = finds
     of_check functions instructions (Replay run) finds = finds
+    of_check functions instructions (Run run) finds = finds
     of_check functions instructions (Races run) finds = finds
 
     of_instrument : (target : Target) (job : Job) → FindsIn files hosts kept (Instrumented target) job tells.holds.program → ⊥
     of_instrument target (Check file) finds = finds
     of_instrument target (Instrument file) finds = unless finds.0
     of_instrument target (Replay run) finds = finds
+    of_instrument target (Run run) finds = finds
     of_instrument target (Races run) finds = finds
 
     of_ran : (job : Job) → FindsIn files hosts kept Ran job tells.holds.program → ⊥
     of_ran (Check file) finds = finds
     of_ran (Instrument file) finds = finds
     of_ran (Replay run) finds = unless finds.0
+    of_ran (Run run) finds = unless finds.0
     of_ran (Races run) finds = finds
 
     of_raced : (races : List Race) (job : Job) → FindsIn files hosts kept (Raced races) job tells.holds.program → ⊥
     of_raced races (Check file) finds = finds
     of_raced races (Instrument file) finds = finds
     of_raced races (Replay run) finds = finds
+    of_raced races (Run run) finds = finds
     of_raced races (Races run) finds = unless finds.0
 
     by_found : (found : Outcome) → HasCause files hosts asked kept found → Puts sink (text_for found kept) (status_for found kept) answer
@@ -212,10 +217,17 @@ complete files hosts sink asked kept answer (inl told) job text input program we
         subst (λ (bytes : List ℕ). Replayed program bytes hosts run.settings.limits run.schedule kept)
         (same_input files run.settings.input of.0 input of.1 has) of.2
 
+    -- and a right record of it
+    right : (run : NativeRun) → IsGivenInput files run.settings.input input → IsNativeRun files hosts kept program run
+        → IsRightRecord program input hosts run.settings.limits kept
+    right run has of =
+        subst (λ (bytes : List ℕ). IsRightRecord program bytes hosts run.settings.limits kept) (same_input files run.settings.input of.0 input of.1 has) of.2
+
     checked : (functions instructions : ℕ) (job : Job) → FindsIn files hosts kept (Accepted functions instructions) job program
         → Puts sink (accepted_line functions instructions) 0 answer → IsServed hosts sink kept program input answer job ⊎ (answer ≡ 9)
     checked functions instructions (Instrument file) finds puts = absurd finds
     checked functions instructions (Replay run) finds puts = absurd finds
+    checked functions instructions (Run run) finds puts = absurd finds
     checked functions instructions (Races run) finds puts = absurd finds
     checked functions instructions (Check file) finds (failed is rose prefix) = absurd (well.no_put_fault rose)
     checked functions instructions (Check file) finds (no_memory is keeps) = inr is
@@ -228,6 +240,7 @@ complete files hosts sink asked kept answer (inl told) job text input program we
         → Puts sink (target_text target) 0 answer → IsServed hosts sink kept program input answer job ⊎ (answer ≡ 9)
     instrumented target (Check file) finds puts = absurd finds
     instrumented target (Replay run) finds puts = absurd finds
+    instrumented target (Run run) finds puts = absurd finds
     instrumented target (Races run) finds puts = absurd finds
     instrumented target (Instrument file) finds (failed is rose prefix) = absurd (well.no_put_fault rose)
     instrumented target (Instrument file) finds (no_memory is keeps) = inr is
@@ -245,11 +258,16 @@ complete files hosts sink asked kept answer (inl told) job text input program we
     reported (Replay run) has finds (no_memory is keeps) = inr is
     reported (Replay run) has finds (whole is appends) = inl (record { right = replayed run has finds.1; status = is; text = appends })
 
+    reported (Run run) has finds (failed is rose prefix) = absurd (well.no_put_fault rose)
+    reported (Run run) has finds (no_memory is keeps) = inr is
+    reported (Run run) has finds (whole is appends) = inl (record { right = right run has finds.1; status = is; text = appends })
+
     raced : (races : List Race) (job : Job) → HasInput files input job → FindsIn files hosts kept (Raced races) job program
         → Puts sink (text_for (Raced races) kept) (status_for (Raced races) kept) answer → IsServed hosts sink kept program input answer job ⊎ (answer ≡ 9)
     raced races (Check file) has finds puts = absurd finds
     raced races (Instrument file) has finds puts = absurd finds
     raced races (Replay run) has finds puts = absurd finds
+    raced races (Run run) has finds puts = absurd finds
     raced races (Races run) has finds (failed is rose prefix) = absurd (well.no_put_fault rose)
     raced races (Races run) has finds (no_memory is keeps) = inr is
     raced races (Races run) has finds (whole is appends) =

@@ -1,5 +1,6 @@
 pub mod Found
 pub mod Limits
+pub mod Mains
 pub mod Reportable
 pub mod Complete
 pub mod Status

@@ -1,7 +1,7 @@
 -- Of what a run left its text can be made.
 use Rattle.std.proofs.Common.{◌≡◌, ℕ, List, Option, inl, inr}
-use Rattle.command_words.specs.Jobs.{Job, ScheduledRun}
-use Rattle.command_words.specs.Jobs.Job.{Check, Instrument, Replay, Races}
+use Rattle.command_words.specs.Jobs.{Job, NativeRun, ScheduledRun}
+use Rattle.command_words.specs.Jobs.Job.{Check, Instrument, Replay, Run, Races}
 use Rattle.history.specs.Records.{empty_record}
 use Rattle.history.specs.declared.record.RunRecord.{RunRecord}
 use Rattle.ir_ast.specs.declared.hosts.HostTable.{HostTable}
@@ -12,7 +12,7 @@ use Rattle.report.specs.Report.{IsReportable}
 use Rattle.source_runs.proofs.Reporting.{right_records_are_reportable}
 use Rattle.target_code.specs.declared.line.Target.{Target}
 use Rattle.bsan.specs.Seen.{FilesSeen}
-use Rattle.bsan.specs.Runs.{IsScheduledRun, IsOfRun}
+use Rattle.bsan.specs.Runs.{IsScheduledRun, IsNativeRun, IsOfRun}
 use Rattle.bsan.specs.Answer.{OfJob, FindsIn, HasCause, CanBeTold, IsEmptyOrRight}
 use Rattle.bsan.specs.declared.outcome.Role.TheVariants as role
 use Rattle.bsan.specs.declared.outcome.Outcome.{Outcome}
@@ -23,18 +23,24 @@ pub run_reportable : (files : FilesSeen) (hosts : HostTable) (kept : RunRecord) 
 run_reportable files hosts kept program run of =
     right_records_are_reportable program of.0 hosts run.settings.limits kept of.2.right.right
 
+native_reportable : (files : FilesSeen) (hosts : HostTable) (kept : RunRecord) (program : Program) (run : NativeRun)
+    → IsNativeRun files hosts kept program run → IsReportable kept
+native_reportable files hosts kept program run of = right_records_are_reportable program of.0 hosts run.settings.limits kept of.2.right
+
 ran_told : (files : FilesSeen) (hosts : HostTable) (kept : RunRecord) (program : Program) (job : Job) → FindsIn files hosts kept Ran job program
     → CanBeTold Ran kept
 ran_told files hosts kept program (Check file) finds = absurd finds
 ran_told files hosts kept program (Instrument file) finds = absurd finds
 ran_told files hosts kept program (Races run) finds = absurd finds
 ran_told files hosts kept program (Replay run) finds = run_reportable files hosts kept program run finds.1
+ran_told files hosts kept program (Run run) finds = native_reportable files hosts kept program run finds.1
 
 raced_told : (files : FilesSeen) (hosts : HostTable) (kept : RunRecord) (races : List Race) (program : Program) (job : Job) → FindsIn files hosts kept (Raced races) job program
     → CanBeTold (Raced races) kept
 raced_told files hosts kept races program (Check file) finds = absurd finds
 raced_told files hosts kept races program (Instrument file) finds = absurd finds
 raced_told files hosts kept races program (Replay run) finds = absurd finds
+raced_told files hosts kept races program (Run run) finds = absurd finds
 raced_told files hosts kept races program (Races run) finds = ((run_reportable files hosts kept program run finds.1).distinct, finds.2)
 
 pub found_told : (files : FilesSeen) (hosts : HostTable) (asked : Option Job) (kept : RunRecord) (found : Outcome) → HasCause files hosts asked kept found
@@ -64,6 +70,7 @@ in_ran files hosts asked kept of = inr (record {
     by_job (Instrument file) finds = absurd finds
     by_job (Races run) finds = absurd finds
     by_job (Replay run) finds = finds
+    by_job (Run run) finds = finds
 
 in_raced : (files : FilesSeen) (hosts : HostTable) (asked : Option Job) (kept : RunRecord) (races : List Race) (of : OfJob files hosts asked kept (Raced races))
     → IsEmptyOrRight files hosts asked kept
@@ -79,6 +86,7 @@ in_raced files hosts asked kept races of = inr (record {
     by_job (Check file) finds = absurd finds
     by_job (Instrument file) finds = absurd finds
     by_job (Replay run) finds = absurd finds
+    by_job (Run run) finds = absurd finds
     by_job (Races run) finds = (finds.0, finds.1)
 
 none_in_check : (files : FilesSeen) (hosts : HostTable) (kept : RunRecord) (functions instructions : ℕ) (job : Job) (program : Program)
@@ -86,6 +94,7 @@ none_in_check : (files : FilesSeen) (hosts : HostTable) (kept : RunRecord) (func
 none_in_check files hosts kept functions instructions (Check file) program finds = finds.3
 none_in_check files hosts kept functions instructions (Instrument file) program finds = absurd finds
 none_in_check files hosts kept functions instructions (Replay run) program finds = absurd finds
+none_in_check files hosts kept functions instructions (Run run) program finds = absurd finds
 none_in_check files hosts kept functions instructions (Races run) program finds = absurd finds
 
 none_in_instrument : (files : FilesSeen) (hosts : HostTable) (kept : RunRecord) (target : Target) (job : Job) (program : Program)
@@ -93,6 +102,7 @@ none_in_instrument : (files : FilesSeen) (hosts : HostTable) (kept : RunRecord) 
 none_in_instrument files hosts kept target (Check file) program finds = absurd finds
 none_in_instrument files hosts kept target (Instrument file) program finds = finds.2
 none_in_instrument files hosts kept target (Replay run) program finds = absurd finds
+none_in_instrument files hosts kept target (Run run) program finds = absurd finds
 none_in_instrument files hosts kept target (Races run) program finds = absurd finds
 
 pub left : (files : FilesSeen) (hosts : HostTable) (asked : Option Job) (kept : RunRecord) (found : Outcome) → HasCause files hosts asked kept found

@@ -2,8 +2,10 @@
 use Rattle.std.specs.Prelude.{◌≡◌, ◌⊎◌, ℕ, List, length, Option, Some, None, IsSomeAnd}
 use Rattle.std.specs.List.{sum_by}
 use Rattle.std.specs.Io.KnownBytes.{Keeps}
-use Rattle.command_words.specs.Jobs.{Job}
-use Rattle.command_words.specs.Jobs.Job.{Check, Instrument, Replay, Races}
+use Rattle.command_words.specs.Jobs.{Job, on_one_thread}
+use Rattle.command_words.specs.Jobs.Job.{Check, Instrument, Replay, Run, Races}
+use Rattle.command_words.specs.Meaning.{native_meant}
+use Rattle.command_words.specs.declared.jobs.NativeRun.{NativeRun as RustRun}
 use Rattle.ir_ast.specs.Programs.{function_instructions}
 use Rattle.ir_ast.specs.declared.hosts.HostTable.{HostTable}
 use Rattle.ir_ast.specs.declared.program.Program.{Program}
@@ -11,6 +13,7 @@ use Rattle.ir_text.specs.Bytes.{most_bytes}
 use Rattle.ir_reader.specs.Readings.{IsProgramOf, Refuses}
 use Rattle.ir_rules.specs.Least.{fault}
 use Rattle.ir_rules.specs.Rules.{IsAccepted, IsFirstBroken}
+use Rattle.ir_rules.specs.declared.verified.Verified.{Verified}
 use Rattle.ir_verify.specs.declared.refusal.VerifyFault.{VerifyFault}
 use Rattle.ir_verify.specs.declared.refusal.VerifyFault.TheVariants.{Refused, NoMemory}
 use Rattle.instrument.specs.Translation.{translation}
@@ -22,10 +25,10 @@ use Rattle.history.specs.declared.record.RunRecord.{RunRecord}
 use Rattle.report.specs.Report.{text_of, status_of, IsReportable}
 use Rattle.race_check.specs.Races.{AreFirstRaces}
 use Rattle.race_check.specs.Text.{race_text, race_status}
-use Rattle.bsan.specs.Words.{Text, file_in, input_in}
+use Rattle.bsan.specs.Words.{Text, file_in, input_in, HasLimits}
 use Rattle.bsan.specs.Seen.{FilesSeen, SinkSeen, Failed, WasTooLong, WasRead, Puts}
 use Rattle.bsan.specs.Lines.{usage_text, file_fault_line, too_long_line, fault_line, rule_line, accepted_line}
-use Rattle.bsan.specs.Runs.{IsScheduledRun, IsOfRun}
+use Rattle.bsan.specs.Runs.{IsScheduledRun, IsNativeRun, IsOfRun}
 use Rattle.bsan.specs.declared.outcome.Role.TheVariants as role
 use Rattle.bsan.specs.declared.outcome.Outcome.{Outcome}
 use Rattle.bsan.specs.declared.outcome.Outcome.TheVariants.{Usage, FileFault, TooLong, NotRead, NotVerified, Accepted, Instrumented, Ran, Raced}
@@ -96,6 +99,33 @@ pub record OfProgram (P : Program → Type 0) (text : List ℕ) : Type 0 where
   pub reads : IsProgramOf text program
   pub holds : P program
 
+-- a run on native threads is what is asked for; or one native thread can serve it
+abbrev pub IsAskedRun : Option Job → Option RustRun → Type 0
+IsAskedRun asked None = on_one_thread asked ≡ asked
+IsAskedRun asked (Some run) = (asked ≡ Some (Run (native_meant run))) × HasLimits (Run (native_meant run))
+
+-- the text is a program's, which was verified with these hosts
+abbrev pub IsParsed : HostTable → List ℕ → Verified → Type 0
+IsParsed hosts text verified = IsProgramOf text verified.program × (verified.hosts ≡ hosts)
+
+-- why it is not
+abbrev pub IsNoProgram : HostTable → List ℕ → Outcome → Type 0
+IsNoProgram hosts text (NotRead read_fault) = Refuses text read_fault
+IsNoProgram hosts text (NotVerified rule at) = OfProgram (λ program. IsFirstBroken program hosts (fault rule at)) text
+IsNoProgram hosts text found = ⊥
+
+-- the file was read, and its text is so
+abbrev pub IsLoaded : FilesSeen → HostTable → Text → Verified → Type 0
+IsLoaded files hosts file verified = (text : List ℕ) × WasRead files file most_bytes text × IsParsed hosts text verified
+
+-- why it was not, or is not
+abbrev pub IsUnloaded : FilesSeen → HostTable → Text → Outcome → Type 0
+IsUnloaded files hosts file (FileFault role.Program) = Failed files file
+IsUnloaded files hosts file (FileFault role.Input) = ⊥
+IsUnloaded files hosts file (TooLong role.Program) = WasTooLong files file most_bytes
+IsUnloaded files hosts file (TooLong role.Input) = ⊥
+IsUnloaded files hosts file found = (text : List ℕ) × WasRead files file most_bytes text × IsNoProgram hosts text found
+
 -- what the job finds in a program, and what record it leaves
 abbrev pub FindsIn : FilesSeen → HostTable → RunRecord → Outcome → Job → Program → Type 0
 FindsIn files hosts kept (NotVerified rule at) job program = IsFirstBroken program hosts (fault rule at) × (kept ≡ empty_record)
@@ -109,6 +139,7 @@ FindsIn files hosts kept (Accepted functions instructions) (Check file) program 
 FindsIn files hosts kept (Instrumented target) (Instrument file) program =
     IsAccepted program hosts × (target ≡ translation hosts.entries program) × (kept ≡ empty_record)
 FindsIn files hosts kept Ran (Replay run) program = IsAccepted program hosts × IsScheduledRun files hosts kept program run
+FindsIn files hosts kept Ran (Run run) program = IsAccepted program hosts × IsNativeRun files hosts kept program run
 FindsIn files hosts kept (Raced races) (Races run) program =
     IsAccepted program hosts × IsScheduledRun files hosts kept program run × AreFirstRaces (merged kept) races
 FindsIn files hosts kept found job program = ⊥
@@ -134,6 +165,11 @@ OfRun files hosts asked kept = OfText files asked (λ job text. OfProgram (λ pr
 -- the record is empty, or that of the run that was asked for
 abbrev pub IsEmptyOrRight : FilesSeen → HostTable → Option Job → RunRecord → Type 0
 IsEmptyOrRight files hosts asked kept = (kept ≡ empty_record) ⊎ OfRun files hosts asked kept
+
+-- one put of the text of what was found; or out of memory before it
+abbrev pub IsTold : SinkSeen → Outcome → RunRecord → ℕ → Type 0
+IsTold sink found kept answer =
+    Puts sink (text_for found kept) (status_for found kept) answer ⊎ (answer ≡ 9) × Keeps sink.taken_before sink.taken_after
 
 -- the work found something, and its text was put
 pub record Told (files : FilesSeen) (hosts : HostTable) (sink : SinkSeen) (asked : Option Job) (kept : RunRecord) (answer : ℕ) : Type 0 where

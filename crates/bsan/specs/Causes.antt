@@ -3,8 +3,8 @@ use Rattle.std.specs.Prelude.{◌≡◌, ◌≢◌, ◌⊎◌, ◌≤◌, ℕ, B
 use Rattle.std.specs.List.{list_any, sum_by}
 use Rattle.std.specs.Io.KnownBytes.{Appends, Keeps}
 use Rattle.outside_io.specs.Counts.{Rose}
-use Rattle.command_words.specs.Jobs.{Job, ScheduledRun, settings_in}
-use Rattle.command_words.specs.Jobs.Job.{Check, Instrument, Replay, Races}
+use Rattle.command_words.specs.Jobs.{Job, NativeRun, ScheduledRun, settings_in}
+use Rattle.command_words.specs.Jobs.Job.{Check, Instrument, Replay, Run, Races}
 use Rattle.core_model.specs.Kept.{Replayed}
 use Rattle.ir_ast.specs.Programs.{function_instructions}
 use Rattle.ir_ast.specs.declared.hosts.HostTable.{HostTable}
@@ -24,6 +24,7 @@ use Rattle.report.specs.Report.{text_of, status_of, any_end, is_no_memory, is_tr
 use Rattle.race_check.specs.Races.{AreFirstRaces}
 use Rattle.race_check.specs.Text.{race_text, race_status}
 use Rattle.race_check.specs.declared.race.Race.{Race}
+use Rattle.source_sem.specs.Records.{IsRightRecord}
 use Rattle.bsan.specs.Words.{Text, file_in, input_in}
 use Rattle.bsan.specs.Seen.{FilesSeen, SinkSeen, Failed, IsFault}
 use Rattle.bsan.specs.Lines.{accepted_line}
@@ -189,6 +190,12 @@ pub record IsReported (hosts : HostTable) (sink : SinkSeen) (kept : RunRecord) (
   pub status : answer ≡ status_of kept
   pub text : Appends sink.taken_before sink.taken_after (text_of kept)
 
+-- the run's status, with the whole report, and a right record of the program with this input
+pub record IsRunRight (hosts : HostTable) (sink : SinkSeen) (kept : RunRecord) (program : Program) (input : List ℕ) (run : NativeRun) (answer : ℕ) : Type 0 where
+  pub right : IsRightRecord program input hosts run.settings.limits kept
+  pub status : answer ≡ status_of kept
+  pub text : Appends sink.taken_before sink.taken_after (text_of kept)
+
 -- the lines of the run's races, with their status, and the record of the program's run with this input
 pub record IsChecked (hosts : HostTable) (sink : SinkSeen) (kept : RunRecord) (program : Program) (input : List ℕ) (run : ScheduledRun) (answer : ℕ) : Type 0 where
   pub right : Replayed program input hosts run.settings.limits run.schedule kept
@@ -212,6 +219,7 @@ abbrev pub IsServed : HostTable → SinkSeen → RunRecord → Program → List 
 IsServed hosts sink kept program input answer (Check file) = IsCounted sink program answer
 IsServed hosts sink kept program input answer (Instrument file) = IsTranslated hosts sink program answer
 IsServed hosts sink kept program input answer (Replay run) = IsReported hosts sink kept program input run answer
+IsServed hosts sink kept program input answer (Run run) = IsRunRight hosts sink kept program input run answer
 IsServed hosts sink kept program input answer (Races run) = IsChecked hosts sink kept program input run answer
 
 -- where all is well, the job is served, or the call is out of memory

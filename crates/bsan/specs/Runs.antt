@@ -1,12 +1,13 @@
 -- The runs that a job asks for.
 use Rattle.std.specs.Prelude.{◌≡◌, ℕ, List, [], Option, Some, None}
-use Rattle.command_words.specs.Jobs.{Job, ScheduledRun}
-use Rattle.command_words.specs.Jobs.Job.{Replay, Races}
+use Rattle.command_words.specs.Jobs.{Job, NativeRun, ScheduledRun}
+use Rattle.command_words.specs.Jobs.Job.{Replay, Run, Races}
 use Rattle.core_model.specs.Kept.{Replayed}
 use Rattle.history.specs.declared.record.RunRecord.{RunRecord}
 use Rattle.ir_ast.specs.declared.hosts.HostTable.{HostTable}
 use Rattle.ir_ast.specs.declared.program.Program.{Program}
 use Rattle.ir_text.specs.Bytes.{most_bytes}
+use Rattle.source_sem.specs.Records.{IsRightRecord}
 use Rattle.bsan.specs.Seen.{FilesSeen, WasRead}
 use Rattle.bsan.specs.Words.{Text}
 
@@ -20,8 +21,14 @@ abbrev pub IsScheduledRun : FilesSeen → HostTable → RunRecord → Program �
 IsScheduledRun files hosts kept program run =
     (input : List ℕ) × IsInput files run.settings.input input × Replayed program input hosts run.settings.limits run.schedule kept
 
+-- the record is a right one of the program, with the input that was read, within the limits
+abbrev pub IsNativeRun : FilesSeen → HostTable → RunRecord → Program → NativeRun → Type 0
+IsNativeRun files hosts kept program run =
+    (input : List ℕ) × IsInput files run.settings.input input × IsRightRecord program input hosts run.settings.limits kept
+
 -- the job has a run, and the record is that of it
 abbrev pub IsOfRun : FilesSeen → HostTable → RunRecord → Program → Job → Type 0
 IsOfRun files hosts kept program (Replay run) = IsScheduledRun files hosts kept program run
+IsOfRun files hosts kept program (Run run) = IsNativeRun files hosts kept program run
 IsOfRun files hosts kept program (Races run) = IsScheduledRun files hosts kept program run
 IsOfRun files hosts kept program job = ⊥

@@ -4,13 +4,17 @@
 //! the program. Where that is asked for it reads its input and runs it into a record. It puts one text: the report of
 //! that record, the data races of its run, how large the program is, its target code, or why there is none.
 //!
-//! For now it serves the commands that need one native thread: `check`, `instrument`, `solo`, `replay` and `races`.
+//! `bsan_alone` serves the commands that need one native thread: `check`, `instrument`, `solo`, `replay` and `races`.
+//! `bsan` serves `run` besides, which has a native thread for each thread of the program.
 #![tactic(auto)]
 
 mod lines;
+mod load;
+mod native;
 mod outcome;
 mod top;
 
+pub use native::bsan;
 pub use top::bsan_alone;
 
 #[cfg(test)]

@@ -2,13 +2,15 @@ ghost use Rattle.std.specs.Prelude.{◌<◌, length};
 ghost use Rattle.hosts.specs.Rules.{IsAnswer};
 ghost use Rattle.hosts.specs.Standard.{standard_table};
 
-use crate::bsan_alone;
+use crate::{bsan, bsan_alone};
 use bsan_ids::{ListOf, Name};
 use hosts::{Hosts, standard_answer, standard_table};
-use outside_io::{MemFiles, MemSink};
+use outside_io::{MemFiles, MemSink, NoGate};
 use run_record::{RunRecord, ThreadLog};
 use std::alloc::Global;
+use std::sync::Wait;
 use std::test::Fail;
+use std::thread::Threads;
 
 const SMALLEST: &str = "bir 1\nfunc @main() -> i64 {\nentry:\n  ret i64 0\n}\n";
 
@@ -16,8 +18,8 @@ const REPORT: &str =
     "thread 0 returned 0\nsteps 0, allocations 0, threads 1, violations 0\nstatus 0\n";
 
 const USAGE: &str =
-    "usage: bsan check FILE | instrument FILE | solo FILE | replay FILE SCHEDULE | races FILE SCHEDULE\n\
-    options of solo, replay and races: --input FILE --steps N --turns N --allocs N\n";
+    "usage: bsan check FILE | instrument FILE | solo FILE | replay FILE SCHEDULE | run FILE | races FILE SCHEDULE\n\
+    options of solo, replay, run and races: --input FILE --steps N --turns N --allocs N\n";
 
 /// Files of one call: the program's, which is `p`, and the input's, which is `q`, with the reads that fail.
 #[derive(Clone, Copy)]
@@ -35,8 +37,15 @@ struct Answer {
     threads: ListOf<ThreadLog>,
 }
 
-/// A call by the words of a line, which are separated by single blanks, with a sink of so much room.
-fn call(alloc: Global, line: &str, given: &Given<'_>, room: Option<u64>) -> Result<Answer, Fail> {
+/// A call by the words of a line, which are separated by single blanks, with a sink of so much room. Where there are no
+/// native threads it is to `bsan_alone`.
+fn call<R: Threads + Wait + Sync>(
+    native: Option<&R>,
+    alloc: Global,
+    line: &str,
+    given: &Given<'_>,
+    room: Option<u64>,
+) -> Result<Answer, Fail> {
     let mut words = Vec::new(alloc);
     for word in line.split(' ') {
         words.push(String::from_str(alloc, word)?)?;
@@ -58,14 +67,13 @@ fn call(alloc: Global, line: &str, given: &Given<'_>, room: Option<u64>) -> Resu
     { standard_answer(number, first, second) };
     let hosts = Hosts::new(table, Box::new(alloc, standard)?);
     let mut kept = RunRecord::new(alloc);
-    let status = bsan_alone(
-        alloc,
-        words.as_slice(),
-        &mut files,
-        &mut out,
-        &hosts,
-        &mut kept,
-    );
+    let words = words.as_slice();
+    let status = match native {
+        Some(rt) => bsan(
+            rt, alloc, words, &mut files, &mut out, &NoGate, &hosts, &mut kept,
+        ),
+        None => bsan_alone(alloc, words, &mut files, &mut out, &hosts, &mut kept),
+    };
     let text = Vec::from_slice(alloc, out.taken())?;
     Ok(Answer {
         status,
@@ -75,7 +83,7 @@ fn call(alloc: Global, line: &str, given: &Given<'_>, room: Option<u64>) -> Resu
 }
 
 /// Words, the program, the status and the text that comes.
-const TEXTS: [(&str, &str, u8, &str); 20] = [
+const TEXTS: [(&str, &str, u8, &str); 23] = [
     (
         "solo p",
         "bir 1\nfunc @main(",
@@ -134,7 +142,15 @@ const TEXTS: [(&str, &str, u8, &str); 20] = [
          result = s2\npopframe\nreturn\n",
     ),
     ("solo", SMALLEST, 2, USAGE),
-    ("run p", SMALLEST, 2, USAGE),
+    ("run", SMALLEST, 2, USAGE),
+    ("run p 0", SMALLEST, 2, USAGE),
+    ("run missing", SMALLEST, 7, "read fault: program\n"),
+    (
+        "run p",
+        "bir 1 func @f() -> void { l: ret void }",
+        4,
+        "not verified: NoMain at 39\n",
+    ),
     ("solo p --steps 0", SMALLEST, 2, USAGE),
     ("replay p 0,,1", SMALLEST, 2, USAGE),
     ("check p --help", SMALLEST, 2, USAGE),
@@ -233,7 +249,7 @@ const RACES: [(&str, &str, u8, &str); 10] = [
 ];
 
 /// Words, the program, the status and the report that comes.
-const RUNS: [(&str, &str, u8, &str); 34] = [
+const RUNS: [(&str, &str, u8, &str); 39] = [
     (
         "solo p",
         "bir 01 func @main()->i64{entry:ret i64 007}; and no more",
@@ -382,6 +398,32 @@ const RUNS: [(&str, &str, u8, &str); 34] = [
     ),
     ("solo p", TWO_HALVES, 0, HALVES_REPORT),
     ("replay p 0,0,1,1,1,0", TWO_HALVES, 0, HALVES_REPORT),
+    ("run p", TWO_HALVES, 0, HALVES_REPORT),
+    ("run p", SMALLEST, 0, REPORT),
+    (
+        "run p --turns 5",
+        "bir 1 func @main() -> i64 { entry: br l l: br l }",
+        6,
+        "thread 0 reached the turn limit\nsteps 0, allocations 0, threads 1, violations 0\nstatus 6\n",
+    ),
+    // Whichever thread comes first, main waits for the child, which traps.
+    (
+        "run p",
+        "bir 1 func @f(ptr %x) -> void { e: %v = udiv i8 1, 0 ret void } \
+        func @main() -> i64 { e: %x = malloc 8 %h = spawn @f(ptr %x) store i64 1, %x join void %h ret i64 0 }",
+        5,
+        "thread 0 ended with thread 1\nthread 1 trapped: DivZero at instruction 0\n\
+        steps 3, allocations 1, threads 2, violations 0\nstatus 5\n",
+    ),
+    // The child's write through a shared borrow is a violation in each order.
+    (
+        "run p",
+        "bir 1 func @f(ptr %y) -> void { e: store i64 1, %y ret void } \
+        func @main() -> i64 { e: %x = malloc 8 %y = retag shr %x, 8 %h = spawn @f(ptr %y) join void %h free %x ret i64 0 }",
+        1,
+        "violation on allocation 1 by thread 1 at instruction 0, step 4: write 0..8 through tag 2: node 2 is Frozen at byte 0\n\
+        thread 0 returned 0\nthread 1 returned 0\nsteps 6, allocations 1, threads 2, violations 1\nstatus 1\n",
+    ),
     ("replay p 1023,0", SMALLEST, 0, REPORT),
     (
         "solo p",
@@ -487,7 +529,7 @@ fn serves_programs(rt: HostRuntime) -> Result<(), Fail> {
                 input: "",
                 failing: &[],
             };
-            let answer = call(alloc, line, &given, None)?;
+            let answer = call(Some(&rt), alloc, line, &given, None)?;
             assert_eq!(rt;
                 answer.text.as_slice(),
                 want.as_bytes(),
@@ -535,7 +577,7 @@ fn answers_files_and_sinks(rt: HostRuntime) -> Result<(), Fail> {
             input: input.as_str(),
             failing,
         };
-        let answer = call(alloc, "solo p --input q", &given, None)?;
+        let answer = call(Some(&rt), alloc, "solo p --input q", &given, None)?;
         assert_eq!(rt; answer.status, status, "{text}");
         assert_eq!(rt; answer.text.as_slice(), text.as_bytes(), "{text}");
     }
@@ -545,7 +587,7 @@ fn answers_files_and_sinks(rt: HostRuntime) -> Result<(), Fail> {
         failing: &[],
     };
     for room in 0..78 {
-        let answer = call(alloc, "solo p", &given, Some(room as u64))?;
+        let answer = call(Some(&rt), alloc, "solo p", &given, Some(room as u64))?;
         assert_eq!(rt; answer.status, if room < 77 { 8 } else { 0 });
         assert_eq!(rt; answer.text.len(), room);
         assert!(rt; REPORT.as_bytes().starts_with(answer.text.as_slice()));
@@ -578,7 +620,7 @@ fn step_limits_leave_the_first_steps(rt: HostRuntime) -> Result<(), Fail> {
     };
     for limit in 1..11 {
         let line = format!(in alloc; "solo p --steps {limit}")?;
-        let answer = call(alloc, line.as_str(), &given, None)?;
+        let answer = call(Some(&rt), alloc, line.as_str(), &given, None)?;
         let mut steps = 0_u64;
         for log in answer.threads.as_slice() {
             for entry in log.entries.as_slice() {
@@ -603,6 +645,23 @@ fn step_limits_leave_the_first_steps(rt: HostRuntime) -> Result<(), Fail> {
             _ => continue,
         };
         assert_eq!(rt; answer.text.as_slice(), text.as_bytes());
+    }
+    Ok(())
+}
+
+#[test]
+fn one_native_thread_serves_all_but_runs(rt: HostRuntime) -> Result<(), Fail> {
+    let alloc = rt.alloc();
+    let given = Given {
+        program: TWO_HALVES,
+        input: "",
+        failing: &[],
+    };
+    let alone: Option<&HostRuntime> = None;
+    for (line, status, want) in [("run p", 2, USAGE), ("solo p", 0, HALVES_REPORT)] {
+        let answer = call(alone, alloc, line, &given, None)?;
+        assert_eq!(rt; answer.status, status, "{line}");
+        assert_eq!(rt; answer.text.as_slice(), want.as_bytes(), "{line}");
     }
     Ok(())
 }

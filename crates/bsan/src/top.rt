@@ -1,43 +1,37 @@
 //! The top call.
-ghost use Rattle.std.specs.Prelude.{◌≡◌, ◌≢◌, ◌≤◌, ℕ, List, [], map, string_bytes, MatchResult, IfOk, OnOk, OnErr, IsErrOf};
-ghost use Rattle.std.specs.Option.{option_map, IsSomeAnd};
-ghost use Rattle.command_words.specs.Jobs.{job_of};
+ghost use Rattle.std.specs.Prelude.{◌≡◌, None, map, string_bytes, MatchResult, IfOk, OnOk, OnErr, IsErrOf};
+ghost use Rattle.std.specs.Option.{IsSomeAnd};
+ghost use Rattle.command_words.specs.Jobs.{job_of, native_in, on_one_thread};
 ghost use Rattle.command_words.specs.Meaning.{job_meant, run_meant};
 ghost use Rattle.core_model.specs.Kept.{Replayed};
 ghost use Rattle.core_model.specs.Running.{AreLimits};
-ghost use Rattle.ir_ast.specs.Programs.{IsProgram};
 ghost use Rattle.ir_text.specs.Bytes.{most_bytes};
 ghost use Rattle.history.specs.Records.{empty_record, merged, HasDistinctStamps};
-ghost use Rattle.bsan.specs.Answer.{FindsIn, HasCause, Answers, IsBrokenRule, IsUnreadInput, IsRaced};
-ghost use Rattle.bsan.specs.Seen.{seen_files, seen_sink, Failed, WasTooLong, WasRead, Puts};
-ghost use Rattle.bsan.specs.Runs.{IsInput, IsScheduledRun};
+ghost use Rattle.bsan.specs.Answer.{FindsIn, HasCause, Answers, CanBeTold, IsTold, IsRaced};
+ghost use Rattle.bsan.specs.Seen.{seen_files, seen_sink, Failed, WasTooLong, Puts};
+ghost use Rattle.bsan.specs.Runs.{IsScheduledRun};
 ghost use Rattle.bsan.specs.Words.{file_in, HasLimits};
 ghost use Rattle.bsan.specs.Causes.{UsageCause, ReadCause, NotReadCause, NotVerifiedCause, PutCause, RunCause, MemoryCause};
 ghost use Rattle.bsan.specs.Causes.{LeavesNone, IsComplete};
 
-use crate::outcome::{Outcome, Role, status_for, text_for};
+use crate::load::{load, read_input, unread_input};
+use crate::outcome::{Outcome, status_for, text_for};
 use bsan_ids::{ListOf, NoMemory};
 use command_words::{Job, ScheduledRun, WordsFault, read_job};
 use core_model::{main_machine, replay};
 use hosts::Hosts;
 use instrument::instrument;
-use ir_ast::Program;
-use ir_reader::{ReadFault, read};
 use ir_rules::Verified;
-use ir_verify::{VerifyFault, verify};
 use outside_io::{FileFault, Files, PutFault, Sink};
 use race_check::races;
 use run_record::RunRecord;
 use std::alloc::Global;
 
-/// The most bytes of a program's text, and of an input.
-const FILE_LIMIT: u64 = 1_048_576;
-
 /// The status where the sink failed.
 const PUT_FAILED: u8 = 8;
 
 /// The status where a call is out of memory.
-const NO_MEMORY: u8 = 9;
+pub(crate) const NO_MEMORY: u8 = 9;
 
 /// Puts a text whose status is given, and answers that status, or 8 or 9 where the put failed.
 fn put_text<K: Sink>(out: &mut K, text: &[u8], status: u8) -> u8
@@ -47,47 +41,6 @@ fn put_text<K: Sink>(out: &mut K, text: &[u8], status: u8) -> u8
         Ok(()) => status,
         Err(PutFault::Failed) => PUT_FAILED,
         Err(PutFault::NoMemory) => NO_MEMORY,
-    }
-}
-
-/// Reads a file, which is to have at most 1,048,576 bytes.
-fn read_file<S: Files>(files: &mut S, name: &str, bytes: &mut Vec<u8>) -> Result<(), FileFault>
-    ensures read { OnOk result (WasRead
-        (seen_files (S.content files.old) (S.faults files.old) (S.faults files.new) (S.overlong files.old) (S.overlong files.new))
-        name.now most_bytes bytes.new.items) }
-    ensures failed { IsErrOf result FileFault.Failed → Failed
-        (seen_files (S.content files.old) (S.faults files.old) (S.faults files.new) (S.overlong files.old) (S.overlong files.new))
-        name.now }
-    ensures too_long { IsErrOf result FileFault.TooLong → WasTooLong
-        (seen_files (S.content files.old) (S.faults files.old) (S.faults files.new) (S.overlong files.old) (S.overlong files.new))
-        name.now most_bytes }
-    ensures content { (other : List ℕ) → S.content files.new other ≡ S.content files.old other }
-    ensures faults { (other : List ℕ) → S.faults files.old other ≤ S.faults files.new other }
-    ensures overlong { (other : List ℕ) (most : ℕ) → S.overlong files.old other most ≤ S.overlong files.new other most }
-{
-    files.read_file(name, FILE_LIMIT, bytes)
-}
-
-/// Reads the input of a run, which is empty where no file is named.
-fn read_input<S: Files>(
-    files: &mut S,
-    name: Option<&str>,
-    input: &mut Vec<u8>,
-) -> Result<(), FileFault>
-    requires { input.old.items ≡ [] }
-    ensures read { OnOk result (IsInput
-        (seen_files (S.content files.old) (S.faults files.old) (S.faults files.new) (S.overlong files.old) (S.overlong files.new))
-        (option_map (λ name. name.now) name.entry) input.new.items) }
-    ensures failed { IsErrOf result FileFault.Failed → IsSomeAnd (option_map (λ name. name.now) name.entry) (λ file. Failed
-        (seen_files (S.content files.old) (S.faults files.old) (S.faults files.new) (S.overlong files.old) (S.overlong files.new))
-        file) }
-    ensures too_long { IsErrOf result FileFault.TooLong → IsSomeAnd (option_map (λ name. name.now) name.entry) (λ file. WasTooLong
-        (seen_files (S.content files.old) (S.faults files.old) (S.faults files.new) (S.overlong files.old) (S.overlong files.new))
-        file most_bytes) }
-{
-    match name {
-        Some(name) => read_file(files, name, input),
-        None => Ok(()),
     }
 }
 
@@ -149,17 +102,6 @@ fn run<S: Files>(
     match replay_with(alloc, asked, verified, input.as_slice(), hosts, kept) {
         Ok(()) => Ok(()),
         Err(NoMemory) => Err(FileFault::NoMemory),
-    }
-}
-
-/// What is found where the input is not read.
-fn unread_input(fault: FileFault) -> Result<Outcome, NoMemory>
-    ensures { IfOk result (IsUnreadInput fault) }
-{
-    match fault {
-        FileFault::Failed => Ok(Outcome::FileFault { role: Role::Input }),
-        FileFault::TooLong => Ok(Outcome::TooLong { role: Role::Input }),
-        FileFault::NoMemory => Err(NoMemory),
     }
 }
 
@@ -237,6 +179,7 @@ fn serve<S: Files>(
     kept: &mut RunRecord,
 ) -> Result<Outcome, NoMemory>
     requires hosts { verified.now.hosts ≡ hosts.now.table }
+    requires alone { native_in (job_meant job.now) ≡ None }
     requires limits { HasLimits (job_meant job.now) }
     requires empty { kept.old ≡ empty_record }
     ensures { MatchResult result (λ found. FindsIn
@@ -253,51 +196,8 @@ fn serve<S: Files>(
             target: instrument(alloc, verified)?,
         }),
         Job::Replay(asked) => serve_replay(alloc, asked, verified, files, hosts, kept),
+        Job::Run(_) => unreachable!(),
         Job::Races(asked) => serve_races(alloc, asked, verified, files, hosts, kept),
-    }
-}
-
-/// Verifies the program, and serves a job on it.
-fn judge<S: Files>(
-    alloc: Global,
-    job: &Job<'_>,
-    program: Program,
-    files: &mut S,
-    hosts: &Hosts,
-    kept: &mut RunRecord,
-) -> Result<Outcome, NoMemory>
-    requires shaped { IsProgram program }
-    requires limits { HasLimits (job_meant job.now) }
-    requires empty { kept.old ≡ empty_record }
-    ensures { MatchResult result (λ found. FindsIn
-        (seen_files (S.content files.old) (S.faults files.old) (S.faults files.new) (S.overlong files.old) (S.overlong files.new))
-        hosts.now.table kept.new found (job_meant job.now) program)
-        (λ _. kept.new ≡ empty_record) }
-{
-    match verify(alloc, program, hosts.table()) {
-        Ok(verified) => serve(alloc, job, &verified, files, hosts, kept),
-        Err(fault) => unverified(fault),
-    }
-}
-
-/// What is found where the program is not verified.
-fn unverified(fault: VerifyFault) -> Result<Outcome, NoMemory>
-    ensures { IfOk result (IsBrokenRule fault) }
-{
-    match fault {
-        VerifyFault::Refused { rule, at } => Ok(Outcome::NotVerified { rule, at }),
-        VerifyFault::NoMemory => Err(NoMemory),
-    }
-}
-
-/// What is found where the text is not read.
-fn unread(fault: ReadFault) -> Result<Outcome, NoMemory>
-    ensures found { IfOk result (λ found. found ≡ Outcome.NotRead fault) }
-    ensures refused { OnOk result (fault ≢ ReadFault.NoMemory) }
-{
-    match fault {
-        ReadFault::NoMemory => Err(NoMemory),
-        _ => Ok(Outcome::NotRead { fault }),
     }
 }
 
@@ -308,10 +208,11 @@ fn file_of<'w>(job: &Job<'w>) -> &'w str
     match job {
         Job::Check { file } | Job::Instrument { file } => file,
         Job::Replay(run) | Job::Races(run) => run.file,
+        Job::Run(run) => run.file,
     }
 }
 
-/// Does the work of a call, up to its text: the words, the files, the program and the job.
+/// Does the work of a call, up to its text: the words, the program and the job.
 fn find<S: Files>(
     alloc: Global,
     words: &[String],
@@ -322,7 +223,7 @@ fn find<S: Files>(
     ensures { MatchResult result
         (HasCause
         (seen_files (S.content files.old) (S.faults files.old) (S.faults files.new) (S.overlong files.old) (S.overlong files.new))
-        hosts.now.table (job_of (map string_bytes words.now)) kept.new)
+        hosts.now.table (on_one_thread (job_of (map string_bytes words.now))) kept.new)
         (λ _. kept.new ≡ empty_record) }
 {
     kept.clear();
@@ -331,20 +232,28 @@ fn find<S: Files>(
         Err(WordsFault::Refused) => return Ok(Outcome::Usage),
         Err(WordsFault::NoMemory) => return Err(NoMemory),
     };
-    let mut text = Vec::new(alloc);
-    match read_file(files, file_of(&job), &mut text) {
-        Ok(()) => {}
-        Err(FileFault::Failed) => return Ok(Outcome::FileFault {
-            role: Role::Program,
-        }),
-        Err(FileFault::TooLong) => return Ok(Outcome::TooLong {
-            role: Role::Program,
-        }),
-        Err(FileFault::NoMemory) => return Err(NoMemory),
+    if job.native().is_some() {
+        return Ok(Outcome::Usage);
     }
-    match read(alloc, text.as_slice()) {
-        Ok(program) => judge(alloc, &job, program, files, hosts, kept),
-        Err(fault) => unread(fault),
+    match load(alloc, file_of(&job), files, hosts)? {
+        Ok(verified) => serve(alloc, &job, &verified, files, hosts, kept),
+        Err(found) => Ok(found),
+    }
+}
+
+/// Puts the text of what was found.
+pub(crate) fn tell<K: Sink>(
+    alloc: Global,
+    found: &Outcome,
+    out: &mut K,
+    kept: &RunRecord,
+) -> u8
+    requires { CanBeTold found.now kept.now }
+    ensures { IsTold (seen_sink (K.taken out.old) (K.taken out.new) (K.faults out.old) (K.faults out.new)) found.now kept.now result }
+{
+    match text_for(alloc, found, kept) {
+        Ok(text) => put_text(out, text.as_slice(), status_for(found, kept)),
+        Err(NoMemory) => NO_MEMORY,
     }
 }
 
@@ -361,14 +270,10 @@ fn answer<S: Files, K: Sink>(
         (seen_files (S.content files.old) (S.faults files.old) (S.faults files.new) (S.overlong files.old) (S.overlong files.new))
         hosts.now.table
         (seen_sink (K.taken out.old) (K.taken out.new) (K.faults out.old) (K.faults out.new))
-        (job_of (map string_bytes words.now)) kept.new result }
+        (on_one_thread (job_of (map string_bytes words.now))) kept.new result }
 {
-    let found = match find(alloc, words, files, hosts, kept) {
-        Ok(found) => found,
-        Err(NoMemory) => return NO_MEMORY,
-    };
-    match text_for(alloc, &found, kept) {
-        Ok(text) => put_text(out, text.as_slice(), status_for(&found, kept)),
+    match find(alloc, words, files, hosts, kept) {
+        Ok(found) => tell(alloc, &found, out, kept),
         Err(NoMemory) => NO_MEMORY,
     }
 }
@@ -422,7 +327,7 @@ pub fn bsan_alone<S: Files, K: Sink>(
         (seen_files (S.content files.old) (S.faults files.old) (S.faults files.new) (S.overlong files.old) (S.overlong files.new))
         hosts.now.table
         (seen_sink (K.taken out.old) (K.taken out.new) (K.faults out.old) (K.faults out.new))
-        (job_of (map string_bytes words.now)) kept.new result }
+        (on_one_thread (job_of (map string_bytes words.now))) kept.new result }
 
     // 0: only after a run without violations, or where a program was accepted or its target code made.
     // 1, 5, 6, 10: only after a run with violations, with a trap, with a limit, with a data race. The whole text was put.
@@ -430,26 +335,26 @@ pub fn bsan_alone<S: Files, K: Sink>(
         (seen_files (S.content files.old) (S.faults files.old) (S.faults files.new) (S.overlong files.old) (S.overlong files.new))
         hosts.now.table
         (seen_sink (K.taken out.old) (K.taken out.new) (K.faults out.old) (K.faults out.new))
-        (job_of (map string_bytes words.now)) kept.new result }
+        (on_one_thread (job_of (map string_bytes words.now))) kept.new result }
 
     // 2: exactly where the words ask for nothing.
-    ensures usage { UsageCause (job_of (map string_bytes words.now)) result }
+    ensures usage { UsageCause (on_one_thread (job_of (map string_bytes words.now))) result }
 
     // 3: exactly where the text is refused, unless the program's file was not read.
     ensures not_read { NotReadCause
         (seen_files (S.content files.old) (S.faults files.old) (S.faults files.new) (S.overlong files.old) (S.overlong files.new))
-        (job_of (map string_bytes words.now)) result }
+        (on_one_thread (job_of (map string_bytes words.now))) result }
 
     // 4: exactly where a rule is broken in the program, unless its file was not read.
     ensures not_verified { NotVerifiedCause
         (seen_files (S.content files.old) (S.faults files.old) (S.faults files.new) (S.overlong files.old) (S.overlong files.new))
-        hosts.now.table (job_of (map string_bytes words.now)) result }
+        hosts.now.table (on_one_thread (job_of (map string_bytes words.now))) result }
 
     // 7: only where a read of the program's file failed or it was too long, or, where the program is accepted, the
     // same of the input's file.
     ensures read_fault { ReadCause
         (seen_files (S.content files.old) (S.faults files.old) (S.faults files.new) (S.overlong files.old) (S.overlong files.new))
-        hosts.now.table (job_of (map string_bytes words.now)) result }
+        hosts.now.table (on_one_thread (job_of (map string_bytes words.now))) result }
 
     // 8: only where the sink failed.
     ensures put_fault { PutCause (seen_sink (K.taken out.old) (K.taken out.new) (K.faults out.old) (K.faults out.new)) result }
@@ -459,7 +364,7 @@ pub fn bsan_alone<S: Files, K: Sink>(
         (seen_files (S.content files.old) (S.faults files.old) (S.faults files.new) (S.overlong files.old) (S.overlong files.new))
         hosts.now.table
         (seen_sink (K.taken out.old) (K.taken out.new) (K.faults out.old) (K.faults out.new))
-        (job_of (map string_bytes words.now)) kept.new result }
+        (on_one_thread (job_of (map string_bytes words.now))) kept.new result }
 
     // 2, 3, 4 and 7 leave no record.
     ensures no_record { LeavesNone kept.new result }
@@ -469,7 +374,7 @@ pub fn bsan_alone<S: Files, K: Sink>(
         (seen_files (S.content files.old) (S.faults files.old) (S.faults files.new) (S.overlong files.old) (S.overlong files.new))
         hosts.now.table
         (seen_sink (K.taken out.old) (K.taken out.new) (K.faults out.old) (K.faults out.new))
-        (job_of (map string_bytes words.now)) kept.new result }
+        (on_one_thread (job_of (map string_bytes words.now))) kept.new result }
 {
     answer(alloc, words, files, out, hosts, kept)
 }

@@ -6,10 +6,10 @@ ghost use Rattle.std.specs.Vec.Iter.{into_iter_items};
 ghost use Rattle.hosts.specs.Rules.{IsAnswer};
 ghost use Rattle.hosts.specs.Standard.{standard_table};
 
-use bsan::bsan_alone;
+use bsan::bsan;
 use bsan_ids::NoMemory;
 use hosts::{Hosts, standard_answer, standard_table};
-use outside_io::{RealFiles, RealSink};
+use outside_io::{NoGate, RealFiles, RealSink};
 use run_record::RunRecord;
 use std::alloc::Global;
 use std::env::Args;
@@ -58,11 +58,13 @@ fn main(rt: HostRuntime) -> ExitCode {
     let mut files = RealFiles::new(&rt);
     let mut out = RealSink::new(&rt);
     let mut kept = RunRecord::new(rt.alloc());
-    let status = bsan_alone(
+    let status = bsan(
+        &rt,
         rt.alloc(),
         words.as_slice(),
         &mut files,
         &mut out,
+        &NoGate,
         &hosts,
         &mut kept,
     );

@@ -6,10 +6,11 @@ use Rattle.std.specs.Cmp.Lexicographic.{bytes_decides}
 use Rattle.std.proofs.lemmas.Bool.{false_from_ne_true}
 use Rattle.clap.specs.Words.{App, Row, Text, Kinds, matches_of}
 use Rattle.clap.specs.Faults.{fault_of}
-use Rattle.command_words.specs.Jobs.{ScheduledRun, Job, unless_fault, said_by, file_by, solo_by, scheduled_by, job_of}
-use Rattle.command_words.specs.Jobs.Job.{Check, Instrument, Replay, Races}
+use Rattle.command_words.specs.Jobs.{ScheduledRun, NativeRun, Job, unless_fault, said_by, file_by, solo_by, native_by, scheduled_by, job_of}
+use Rattle.command_words.specs.Jobs.Job.{Check, Instrument, Replay, Run, Races}
 use Rattle.command_words.specs.Commands.{Takes}
-use Rattle.command_words.specs.Meaning.{run_meant}
+use Rattle.command_words.specs.Meaning.{native_meant, run_meant}
+use Rattle.command_words.specs.declared.jobs.NativeRun as native
 use Rattle.command_words.specs.declared.jobs.ScheduledRun as rust
 
 unless_none : {A : Type 0} (kinds : Kinds) (answer : Option A) → kinds ≡ [] → unless_fault kinds answer ≡ answer
@@ -47,26 +48,32 @@ next : (other : Bool) (x rest : Option Job) → other ≡ false → rest ≡ Non
 next other x rest is none = rw is none
 
 unnamed : (name : Text) (rest : List Text) → (name ≡ codes "check" → ⊥) → (name ≡ codes "instrument" → ⊥) → (name ≡ codes "solo" → ⊥)
-    → (name ≡ codes "replay" → ⊥) → (name ≡ codes "races" → ⊥) → job_of (name ∷ rest) ≡ None
+    → (name ≡ codes "replay" → ⊥) → (name ≡ codes "run" → ⊥) → (name ≡ codes "races" → ⊥) → job_of (name ∷ rest) ≡ None
 unfolding job_of
-unnamed name rest check instrument solo replay races =
+unnamed name rest check instrument solo replay run races =
     next (bytes_eq name (codes "check")) (option_map Check (file_by (codes "check") (name ∷ rest))) _ (differs name (codes "check") check)
     (next (bytes_eq name (codes "instrument")) (option_map Instrument (file_by (codes "instrument") (name ∷ rest))) _ (differs name (codes "instrument") instrument)
     (next (bytes_eq name (codes "solo")) (option_map Replay (solo_by (name ∷ rest))) _ (differs name (codes "solo") solo)
     (next (bytes_eq name (codes "replay")) (option_map Replay (scheduled_by (codes "replay") (name ∷ rest))) _ (differs name (codes "replay") replay)
-    (next (bytes_eq name (codes "races")) (option_map Races (scheduled_by (codes "races") (name ∷ rest))) None (differs name (codes "races") races) refl))))
+    (next (bytes_eq name (codes "run")) (option_map Run (native_by (codes "run") (name ∷ rest))) _ (differs name (codes "run") run)
+    (next (bytes_eq name (codes "races")) (option_map Races (scheduled_by (codes "races") (name ∷ rest))) None (differs name (codes "races") races) refl)))))
 
 pub no_command : {A : Type 0} (text : A → Text) (words : List A) (first : A) (name : Text) → (let o : Option A = Some first in o) ≡ slice_get words 0 → name ≡ text first
-    → (name ≡ codes "check" → ⊥) → (name ≡ codes "instrument" → ⊥) → (name ≡ codes "solo" → ⊥) → (name ≡ codes "replay" → ⊥) → (name ≡ codes "races" → ⊥)
-    → job_of (map text words) ≡ None
-no_command text [] first name e is check instrument solo replay races = absurd cc
-no_command text (w ∷ words) first name e is check instrument solo replay races =
+    → (name ≡ codes "check" → ⊥) → (name ≡ codes "instrument" → ⊥) → (name ≡ codes "solo" → ⊥) → (name ≡ codes "replay" → ⊥) → (name ≡ codes "run" → ⊥)
+    → (name ≡ codes "races" → ⊥) → job_of (map text words) ≡ None
+no_command text [] first name e is check instrument solo replay run races = absurd cc
+no_command text (w ∷ words) first name e is check instrument solo replay run races =
     let same : first ≡ w = cc in
     let named : name ≡ text w = is ∙ ap text same in
-    ap (λ (t : Text). job_of (t ∷ map text words)) (sym named) ∙ unnamed name (map text words) check instrument solo replay races
+    ap (λ (t : Text). job_of (t ∷ map text words)) (sym named) ∙ unnamed name (map text words) check instrument solo replay run races
 
 -- ---- a run that the words ask for by another name
 pub means_as : {E : Type 0} (made : Result rust.ScheduledRun E) (said other : Option ScheduledRun) → said ≡ other → IfOk made (λ run. said ≡ Some (run_meant run))
     → IfOk made (λ run. other ≡ Some (run_meant run))
 means_as (Ok run) said other same is = sym same ∙ is
 means_as (Err e) said other same is = tt
+
+pub native_as : {E : Type 0} (made : Result native.NativeRun E) (said other : Option NativeRun) → said ≡ other → IfOk made (λ run. said ≡ Some (native_meant run))
+    → IfOk made (λ run. other ≡ Some (native_meant run))
+native_as (Ok run) said other same is = sym same ∙ is
+native_as (Err e) said other same is = tt

@@ -7,8 +7,8 @@ use Rattle.std.proofs.lemmas.Bool.{leb-true}
 use Rattle.bsan_ids.specs.declared.numbers.Limits.{Limits}
 use Rattle.clap.specs.Words.{App, Row, Text, Kinds, matches_of, first_of}
 use Rattle.clap.specs.Faults.{fault_of}
-use Rattle.command_words.specs.Jobs.{Settings, ScheduledRun, Job, scheduled, settings_in, limit_of, limits_of, settings_of, file_of, run_of, schedule_in, unless_fault, said_by, file_by, solo_by, scheduled_by, job_of}
-use Rattle.command_words.specs.Jobs.Job.{Check, Instrument, Replay, Races}
+use Rattle.command_words.specs.Jobs.{Settings, ScheduledRun, NativeRun, Job, native, native_of, native_by, scheduled, settings_in, limit_of, limits_of, settings_of, file_of, run_of, schedule_in, unless_fault, said_by, file_by, solo_by, scheduled_by, job_of}
+use Rattle.command_words.specs.Jobs.Job.{Check, Instrument, Replay, Run, Races}
 use Rattle.command_words.specs.Numbers.{has_digits, number_in}
 use Rattle.command_words.specs.Commands.{run_app, schedule_app}
 
@@ -116,6 +116,18 @@ scheduled_within name words run is =
     run_within (schedule_in (matches_of (schedule_app name) words)) (matches_of (schedule_app name) words) run
     (said (schedule_app name) (λ rows. run_of (schedule_in rows) rows) words run is)
 
+native_within : (name : Text) (words : List Text) (run : NativeRun) → native_by name words ≡ Some run → AreInRange run.settings.limits
+native_within name words run is =
+    by_parts (file_of (matches_of (run_app name) words)) (settings_of (matches_of (run_app name) words)) refl (said (run_app name) native_of words run is)
+  where
+    by_parts : (file : Option Text) (settings : Option Settings) → settings_of (matches_of (run_app name) words) ≡ settings
+        → option_and_then (λ (f : Text). option_map (native f) settings) file ≡ Some run → AreInRange run.settings.limits
+    by_parts None settings are found = absurd cc
+    by_parts (Some f) None are found = absurd cc
+    by_parts (Some f) (Some s) are found =
+        let same : native f s ≡ run = cc in
+        settings_within (matches_of (run_app name) words) run.settings (are ∙ ap (λ (r : NativeRun). Some r.settings) same)
+
 -- the settings of a job, where it has a run, have limits in their ranges
 abbrev pub AreWithin : Option Settings → Type 0
 AreWithin None = Unit {0}
@@ -128,32 +140,41 @@ of_file None make none job is = absurd cc
 of_file (Some name) make none job is =
     let same : make name ≡ job = cc in subst AreWithin (sym (none name) ∙ ap settings_in same) tt
 
-of_run : (run : Option ScheduledRun) (make : ScheduledRun → Job) → ((r : ScheduledRun) → settings_in (make r) ≡ Some r.settings)
-    → ((r : ScheduledRun) → run ≡ Some r → AreInRange r.settings.limits) → (job : Job) → option_map make run ≡ Some job → AreWithin (settings_in job)
-of_run None make some within job is = absurd cc
-of_run (Some r) make some within job is =
+of_run : {R : Type 0} (settings : R → Settings) (run : Option R) (make : R → Job) → ((r : R) → settings_in (make r) ≡ Some (settings r))
+    → ((r : R) → run ≡ Some r → AreInRange (settings r).limits) → (job : Job) → option_map make run ≡ Some job → AreWithin (settings_in job)
+of_run settings None make some within job is = absurd cc
+of_run settings (Some r) make some within job is =
     let same : make r ≡ job = cc in subst AreWithin (sym (some r) ∙ ap settings_in same) (within r refl)
+
+abbrev of_schedule : ScheduledRun → Settings
+of_schedule run = run.settings
+
+abbrev of_native : NativeRun → Settings
+of_native run = run.settings
 
 pub limits_in_range : (words : List Text) (job : Job) → job_of words ≡ Some job → AreWithin (settings_in job)
 unfolding job_of
 limits_in_range [] job is = absurd cc
 limits_in_range (name ∷ rest) job is =
     by_name (bytes_eq name (codes "check")) (bytes_eq name (codes "instrument")) (bytes_eq name (codes "solo")) (bytes_eq name (codes "replay"))
-    (bytes_eq name (codes "races")) is
+    (bytes_eq name (codes "run")) (bytes_eq name (codes "races")) is
   where
-    by_name : (check instrument solo replay races : Bool)
+    by_name : (check instrument solo replay run races : Bool)
         → (if check then option_map Check (file_by (codes "check") (name ∷ rest))
         else (if instrument then option_map Instrument (file_by (codes "instrument") (name ∷ rest))
         else (if solo then option_map Replay (solo_by (name ∷ rest))
         else (if replay then option_map Replay (scheduled_by (codes "replay") (name ∷ rest))
+        else (if run then option_map Run (native_by (codes "run") (name ∷ rest))
         else (if races then option_map Races (scheduled_by (codes "races") (name ∷ rest))
-        else None))))) ≡ Some job
+        else None)))))) ≡ Some job
         → AreWithin (settings_in job)
-    by_name true instrument solo replay races found = of_file (file_by (codes "check") (name ∷ rest)) Check (λ n. refl) job found
-    by_name false true solo replay races found = of_file (file_by (codes "instrument") (name ∷ rest)) Instrument (λ n. refl) job found
-    by_name false false true replay races found = of_run (solo_by (name ∷ rest)) Replay (λ r. refl) (solo_within (name ∷ rest)) job found
-    by_name false false false true races found =
-        of_run (scheduled_by (codes "replay") (name ∷ rest)) Replay (λ r. refl) (scheduled_within (codes "replay") (name ∷ rest)) job found
-    by_name false false false false true found =
-        of_run (scheduled_by (codes "races") (name ∷ rest)) Races (λ r. refl) (scheduled_within (codes "races") (name ∷ rest)) job found
-    by_name false false false false false found = absurd cc
+    by_name true instrument solo replay run races found = of_file (file_by (codes "check") (name ∷ rest)) Check (λ n. refl) job found
+    by_name false true solo replay run races found = of_file (file_by (codes "instrument") (name ∷ rest)) Instrument (λ n. refl) job found
+    by_name false false true replay run races found = of_run of_schedule (solo_by (name ∷ rest)) Replay (λ r. refl) (solo_within (name ∷ rest)) job found
+    by_name false false false true run races found =
+        of_run of_schedule (scheduled_by (codes "replay") (name ∷ rest)) Replay (λ r. refl) (scheduled_within (codes "replay") (name ∷ rest)) job found
+    by_name false false false false true races found =
+        of_run of_native (native_by (codes "run") (name ∷ rest)) Run (λ r. refl) (native_within (codes "run") (name ∷ rest)) job found
+    by_name false false false false false true found =
+        of_run of_schedule (scheduled_by (codes "races") (name ∷ rest)) Races (λ r. refl) (scheduled_within (codes "races") (name ∷ rest)) job found
+    by_name false false false false false false found = absurd cc

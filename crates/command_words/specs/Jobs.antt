@@ -20,10 +20,16 @@ pub record ScheduledRun : Type 0 where
   pub schedule : List ℕ
   pub settings : Settings
 
+-- a run on native threads: the program's file, and what the options say
+pub record NativeRun : Type 0 where
+  pub file : Text
+  pub settings : Settings
+
 pub data Job : Type 0 where
   Check : (file : Text) → Job
   Instrument : (file : Text) → Job
   Replay : (run : ScheduledRun) → Job
+  Run : (run : NativeRun) → Job
   Races : (run : ScheduledRun) → Job
 
 -- what the options say, where the job has a run
@@ -31,7 +37,21 @@ abbrev pub settings_in : Job → Option Settings
 settings_in (Check file) = None
 settings_in (Instrument file) = None
 settings_in (Replay run) = Some run.settings
+settings_in (Run run) = Some run.settings
 settings_in (Races run) = Some run.settings
+
+-- the run on native threads that a job is
+abbrev pub native_in : Job → Option NativeRun
+native_in (Run run) = Some run
+native_in job = None
+
+abbrev pub unless_native : Option NativeRun → Job → Option Job
+unless_native None job = Some job
+unless_native (Some run) job = None
+
+-- what is asked for, where one native thread can serve it
+abbrev pub on_one_thread : Option Job → Option Job
+on_one_thread asked = option_and_then (λ job. unless_native (native_in job) job) asked
 
 -- the limit of an option, from 1 on, or what it is where the option isn't there
 abbrev pub limit_of : Text → ℕ → ℕ → List Row → Option ℕ
@@ -60,6 +80,13 @@ abbrev pub run_of : Option (List ℕ) → List Row → Option ScheduledRun
 run_of schedule rows =
     option_and_then (λ file. option_and_then (λ numbers. option_map (scheduled file numbers) (settings_of rows)) schedule) (file_of rows)
 
+abbrev pub native : Text → Settings → NativeRun
+native file settings = record { file = file; settings = settings }
+
+-- a run on native threads
+abbrev pub native_of : List Row → Option NativeRun
+native_of rows = option_and_then (λ file. option_map (native file) (settings_of rows)) (file_of rows)
+
 abbrev pub schedule_in : List Row → Option (List ℕ)
 schedule_in rows = option_and_then schedule_of (first_of (codes "SCHEDULE") rows)
 
@@ -80,6 +107,10 @@ file_by name words = said_by (file_app name) file_of words
 abbrev pub solo_by : List Text → Option ScheduledRun
 solo_by words = said_by (run_app (codes "solo")) (run_of (Some [])) words
 
+-- the run of the command NAME FILE on native threads
+abbrev pub native_by : Text → List Text → Option NativeRun
+native_by name words = said_by (run_app name) native_of words
+
 -- the run of the command NAME FILE SCHEDULE
 abbrev pub scheduled_by : Text → List Text → Option ScheduledRun
 scheduled_by name words = said_by (schedule_app name) (λ rows. run_of (schedule_in rows) rows) words
@@ -92,5 +123,6 @@ job_of (name ∷ rest) =
     else (if bytes_eq name (codes "instrument") then option_map Instrument (file_by (codes "instrument") (name ∷ rest))
     else (if bytes_eq name (codes "solo") then option_map Replay (solo_by (name ∷ rest))
     else (if bytes_eq name (codes "replay") then option_map Replay (scheduled_by (codes "replay") (name ∷ rest))
+    else (if bytes_eq name (codes "run") then option_map Run (native_by (codes "run") (name ∷ rest))
     else (if bytes_eq name (codes "races") then option_map Races (scheduled_by (codes "races") (name ∷ rest))
-    else None))))
+    else None)))))

@@ -3,9 +3,10 @@ use Rattle.std.specs.Prelude.{map}
 use Rattle.std.specs.Option.{option_map}
 use Rattle.command_words.specs.Jobs as jobs
 use Rattle.command_words.specs.declared.jobs.Job.{Job}
+use Rattle.command_words.specs.declared.jobs.NativeRun.{NativeRun}
 use Rattle.command_words.specs.declared.jobs.ScheduledRun.{ScheduledRun}
 use Rattle.command_words.specs.declared.jobs.Settings.{Settings}
-use Rattle.command_words.specs.declared.jobs.Job.TheVariants.{Check, Instrument, Replay, Races}
+use Rattle.command_words.specs.declared.jobs.Job.TheVariants.{Check, Instrument, Replay, Run, Races}
 
 abbrev pub settings_meant : Settings → jobs.Settings
 settings_meant settings = record { input = option_map (λ name. name.now) settings.input; limits = settings.limits }
@@ -17,8 +18,12 @@ run_meant run = record {
   settings = settings_meant run.settings;
 }
 
+abbrev pub native_meant : NativeRun → jobs.NativeRun
+native_meant run = record { file = run.file.now; settings = settings_meant run.settings }
+
 abbrev pub job_meant : Job → jobs.Job
 job_meant (Check file) = jobs.Check file.now
 job_meant (Instrument file) = jobs.Instrument file.now
 job_meant (Replay run) = jobs.Replay (run_meant run)
+job_meant (Run run) = jobs.Run (native_meant run)
 job_meant (Races run) = jobs.Races (run_meant run)

@@ -3,7 +3,7 @@ ghost use Rattle.std.specs.Prelude.{◌≡◌, ◌≤◌, true, is_some, map, st
 ghost use Rattle.std.specs.Option.{option_map};
 ghost use Rattle.clap.specs.Words.{first_of, found_of, rows_of};
 ghost use Rattle.command_words.specs.Jobs as jobs;
-ghost use Rattle.command_words.specs.Meaning.{job_meant, run_meant, settings_meant};
+ghost use Rattle.command_words.specs.Meaning.{job_meant, native_meant, run_meant, settings_meant};
 
 use crate::WordsFault;
 use crate::commands::{file_command, matched, run_command, schedule_command};
@@ -32,6 +32,15 @@ pub struct ScheduledRun<'w> {
     pub settings: Settings<'w>,
 }
 
+/// A run on native threads.
+#[derive(Clone, Copy)]
+pub struct NativeRun<'w> {
+    /// The file with the program.
+    pub file: &'w str,
+    /// What the options say.
+    pub settings: Settings<'w>,
+}
+
 /// What a command line asks for.
 #[derive(Drop)]
 pub enum Job<'w> {
@@ -41,8 +50,26 @@ pub enum Job<'w> {
     Instrument { file: &'w str },
     /// Run a program on one native thread, and tell how the run went.
     Replay(ScheduledRun<'w>),
+    /// Run a program on native threads, and tell how the run went.
+    Run(NativeRun<'w>),
     /// Run a program on one native thread, and tell the data races of the run.
     Races(ScheduledRun<'w>),
+}
+
+impl<'w> Job<'w> {
+    ghost use Rattle.std.specs.Option.{option_map};
+    ghost use Rattle.command_words.specs.Jobs as jobs;
+    ghost use Rattle.command_words.specs.Meaning.{job_meant, native_meant};
+
+    /// The run on native threads, where the job is one.
+    pub fn native(&self) -> Option<NativeRun<'w>>
+        ensures { option_map native_meant result ≡ jobs.native_in (job_meant self.now) }
+    {
+        match self {
+            Job::Run(run) => Some(*run),
+            Job::Check { .. } | Job::Instrument { .. } | Job::Replay(_) | Job::Races(_) => None,
+        }
+    }
 }
 
 /// The limit of an option, from 1 to the most, or its default where the option isn't there.
@@ -115,6 +142,19 @@ fn scheduled<'w>(
     }
 }
 
+/// A run on native threads of the program in the word FILE, with what the options say.
+fn native<'w>(matches: &ArgMatches<'w>) -> Result<NativeRun<'w>, WordsFault>
+    requires { is_some (first_of (codes "FILE") (rows_of (found_of matches.now))) ≡ true }
+    ensures run { IfOk result (λ run. jobs.native_of (rows_of (found_of matches.now)) ≡ Some (native_meant run)) }
+    ensures refused { IsErrOf result WordsFault.Refused → jobs.native_of (rows_of (found_of matches.now)) ≡ None }
+{
+    let file = matches.get_str("FILE").unwrap();
+    match options(matches) {
+        Some(settings) => Ok(NativeRun { file, settings }),
+        None => Err(WordsFault::Refused),
+    }
+}
+
 /// The run that the words of the command `solo` ask for.
 fn read_solo<'w>(alloc: Global, words: &'w [String]) -> Result<ScheduledRun<'w>, WordsFault>
     ensures run { IfOk result (λ run. jobs.solo_by (map string_bytes words.entry.now) ≡ Some (run_meant run)) }
@@ -122,6 +162,21 @@ fn read_solo<'w>(alloc: Global, words: &'w [String]) -> Result<ScheduledRun<'w>,
 {
     let matches = matched(run_command(alloc, "solo")?, words)?;
     scheduled(&matches, ListOf::new(alloc))
+}
+
+/// The run on native threads that the words of the command `NAME FILE` ask for.
+fn read_native<'w>(
+    alloc: Global,
+    name: &'w str,
+    words: &'w [String],
+) -> Result<NativeRun<'w>, WordsFault>
+    ensures run { IfOk result (λ run.
+        jobs.native_by name.now (map string_bytes words.entry.now) ≡ Some (native_meant run)) }
+    ensures refused { IsErrOf result WordsFault.Refused
+        → jobs.native_by name.now (map string_bytes words.entry.now) ≡ None }
+{
+    let matches = matched(run_command(alloc, name)?, words)?;
+    native(&matches)
 }
 
 /// The run that the words of the command `NAME FILE SCHEDULE` ask for.
@@ -165,6 +220,7 @@ pub fn read_job<'w>(alloc: Global, words: &'w [String]) -> Result<Job<'w>, Words
         }),
         "solo" => Ok(Job::Replay(read_solo(alloc, words)?)),
         "replay" => Ok(Job::Replay(read_scheduled(alloc, "replay", words)?)),
+        "run" => Ok(Job::Run(read_native(alloc, "run", words)?)),
         "races" => Ok(Job::Races(read_scheduled(alloc, "races", words)?)),
         _ => Err(WordsFault::Refused),
     }

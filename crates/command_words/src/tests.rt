@@ -1,18 +1,23 @@
-use crate::{Job, ScheduledRun, WordsFault, read_job};
+use crate::{Job, ScheduledRun, Settings, WordsFault, read_job};
 use std::alloc::{AllocError, Global};
 use std::test::Fail;
+
+/// The input and the limits.
+fn told_settings(alloc: Global, settings: &Settings<'_>) -> Result<String, AllocError> {
+    let input = settings.input.unwrap_or("none");
+    let steps = settings.limits.steps;
+    let turns = settings.limits.turns;
+    let allocs = settings.limits.allocs;
+    format!(in alloc; "{input} {steps} {turns} {allocs}")
+}
 
 /// A run: the file, the input, the limits, how many numbers the schedule has, and the last of them.
 fn told_run(alloc: Global, name: &str, run: &ScheduledRun<'_>) -> Result<String, AllocError> {
     let file = run.file;
-    let input = run.settings.input.unwrap_or("none");
-    let limits = run.settings.limits;
-    let steps = limits.steps;
-    let turns = limits.turns;
-    let allocs = limits.allocs;
+    let settings = told_settings(alloc, &run.settings)?;
     let picks = run.schedule.len();
     let last = run.schedule.as_slice().last().map_or(0, |pick| pick.0);
-    format!(in alloc; "{name} {file} {input} {steps} {turns} {allocs} {picks} {last}")
+    format!(in alloc; "{name} {file} {settings} {picks} {last}")
 }
 
 /// What the words of a line ask for, which are separated by single blanks.
@@ -25,6 +30,11 @@ fn told(alloc: Global, line: &str) -> Result<String, AllocError> {
         Ok(Job::Check { file }) => format!(in alloc; "check {file}"),
         Ok(Job::Instrument { file }) => format!(in alloc; "instrument {file}"),
         Ok(Job::Replay(run)) => told_run(alloc, "replay", &run),
+        Ok(Job::Run(run)) => {
+            let file = run.file;
+            let settings = told_settings(alloc, &run.settings)?;
+            format!(in alloc; "run {file} {settings}")
+        }
         Ok(Job::Races(run)) => told_run(alloc, "races", &run),
         Err(WordsFault::Refused) => String::from_str(alloc, "refused"),
         Err(WordsFault::NoMemory) => String::from_str(alloc, "no memory"),
@@ -68,6 +78,11 @@ fn words_are_read(rt: HostRuntime) -> Result<(), Fail> {
             "replay --steps 2 p --input i 7 --turns 3",
             "replay p i 2 3 65536 1 7",
         ),
+        ("run p", "run p none 1000000 10000000 65536"),
+        (
+            "run --turns=3 run --input q --steps 2 --allocs 1",
+            "run run q 2 3 1",
+        ),
         ("races p 0,1", "races p none 1000000 10000000 65536 2 1"),
         (
             "races 3 --input=races --allocs 9 --turns=8 --steps 7 1023",
@@ -87,7 +102,10 @@ fn words_are_read(rt: HostRuntime) -> Result<(), Fail> {
         "Check p",
         "chec p",
         "p check",
-        "run p",
+        "run",
+        "run p 0",
+        "run p --steps 0",
+        "run p --turns",
         "help",
         "--help",
         "check --help",

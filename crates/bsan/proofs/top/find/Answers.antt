@@ -1,13 +1,44 @@
-use Rattle.std.proofs.Common.{map, string_bytes, rules}
+use Rattle.std.proofs.Common.{List, map, string_bytes, refl, subst, rules}
+use Rattle.command_words.specs.Jobs.{Job, job_of, on_one_thread}
 use Rattle.command_words.specs.Meaning.{job_meant}
-use Rattle.bsan.proofs.Found.{refused_in_text}
+use Rattle.bsan.specs.Words.{Text}
+use Rattle.bsan.specs.Seen.{FilesSeen, seen_files}
+use Rattle.bsan.specs.Answer.{IsLoaded, IsUnloaded}
+use Rattle.bsan.proofs.Found.{served, alone, ok_of}
 use Rattle.bsan.proofs.Limits.{has_limits}
 use Rattle.bsan.proofs.top.find.Goals as goal
 
-pub judge-requires-clause-limits : goal.judge-requires-clause-limits
-judge-requires-clause-limits g c = has_limits (map string_bytes c.args.words.now) (job_meant c.in-Ok.job) c.in-Ok.ensures.job
+pub serve-requires : goal.serve-requires
+serve-requires g c = record {
+  hosts = (ok_of (IsLoaded _ c.args.hosts.now.table _) (IsUnloaded _ c.args.hosts.now.table _) c.in_ok-verified.field-0 c.in-Ok-2.verified c.in-Ok-2.is
+      c.in_ok-verified.ensures.loaded).2.1;
+  alone = search rules;
+  limits = has_limits (map string_bytes c.args.words.now) (job_meant c.in-Ok.job) c.in-Ok.ensures.job;
+  empty = search rules;
+}
 
-pub returns : goal.returns
-returns g c =
-    refused_in_text _ _ _ _ (job_meant c.in-Ok.job) c.as_slice.result.now _ _ (search rules) (search rules)
-    c.in-Err.ensures.refused (search rules) c.unread.ensures.found c.unread.ensures.refused
+pub returns-in-Ok-2 : goal.returns-in-Ok-2
+returns-in-Ok-2 g c =
+    let whole : FilesSeen = seen_files (g.S.Files.content c.args.files.now) (g.S.Files.faults c.args.files.now) (g.S.Files.faults c.serve.new.files)
+    (g.S.Files.overlong c.args.files.now) (g.S.Files.overlong c.serve.new.files) in
+    let first : FilesSeen = seen_files (g.S.Files.content c.args.files.now) (g.S.Files.faults c.args.files.now) (g.S.Files.faults c.load.new.files)
+    (g.S.Files.overlong c.args.files.now) (g.S.Files.overlong c.load.new.files) in
+    let part : FilesSeen = seen_files (g.S.Files.content c.load.new.files) (g.S.Files.faults c.load.new.files) (g.S.Files.faults c.serve.new.files)
+    (g.S.Files.overlong c.load.new.files) (g.S.Files.overlong c.serve.new.files) in
+    let hosts = c.args.hosts.now.table in
+    let words : List Text = map string_bytes c.args.words.now in
+    let job : Job = job_meant c.in-Ok.job in
+    let loaded = ok_of (IsLoaded first hosts c.file_of.result.now) (IsUnloaded first hosts c.file_of.result.now) c.in_ok-verified.field-0 c.in-Ok-2.verified
+    c.in-Ok-2.is c.in_ok-verified.ensures.loaded in
+    served first part whole hosts (on_one_thread (job_of words)) c.serve.new.kept c.serve.result job c.in-Ok-2.verified
+    (λ file. refl)
+    (record {
+      content = c.load.ensures.content;
+      faults_before = c.load.ensures.faults;
+      faults_after = λ file. refl;
+      overlong_before = c.load.ensures.overlong;
+      overlong_after = λ file limit. refl;
+    })
+    (alone (job_of words) job c.in-Ok.ensures.job (search rules))
+    (subst (λ (file : Text). IsLoaded first hosts file c.in-Ok-2.verified) c.file_of.ensures loaded)
+    c.serve.ensures

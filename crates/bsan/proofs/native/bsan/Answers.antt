@@ -1,0 +1,24 @@
+use Rattle.bsan.proofs.Complete.{refused, broken, complete}
+use Rattle.bsan.proofs.Status.{unread, unverified, read_cause, run_cause, memory_cause, no_record}
+use Rattle.bsan.proofs.native.bsan.Goals as goal
+
+pub returns-clause-run : goal.returns-clause-run
+returns-clause-run g c = run_cause _ _ _ _ _ _ c.answer.ensures
+
+pub returns-clause-not_read : goal.returns-clause-not_read
+returns-clause-not_read g c = record { only = unread _ _ _ _ _ _ c.answer.ensures; always = refused _ _ _ _ _ _ c.answer.ensures }
+
+pub returns-clause-not_verified : goal.returns-clause-not_verified
+returns-clause-not_verified g c = record { only = unverified _ _ _ _ _ _ c.answer.ensures; always = broken _ _ _ _ _ _ c.answer.ensures }
+
+pub returns-clause-read_fault : goal.returns-clause-read_fault
+returns-clause-read_fault g c = read_cause _ _ _ _ _ _ c.answer.ensures
+
+pub returns-clause-memory : goal.returns-clause-memory
+returns-clause-memory g c = memory_cause _ _ _ _ _ _ c.answer.ensures
+
+pub returns-clause-no_record : goal.returns-clause-no_record
+returns-clause-no_record g c = no_record _ _ _ _ _ _ c.answer.ensures
+
+pub returns-clause-complete : goal.returns-clause-complete
+returns-clause-complete g c = complete _ _ _ _ _ _ c.answer.ensures
