@@ -242,12 +242,7 @@ fn find<S: Files>(
 }
 
 /// Puts the text of what was found.
-pub(crate) fn tell<K: Sink>(
-    alloc: Global,
-    found: &Outcome,
-    out: &mut K,
-    kept: &RunRecord,
-) -> u8
+pub(crate) fn tell<K: Sink>(alloc: Global, found: &Outcome, out: &mut K, kept: &RunRecord) -> u8
     requires { CanBeTold found.now kept.now }
     ensures { IsTold (seen_sink (K.taken out.old) (K.taken out.new) (K.faults out.old) (K.faults out.new)) found.now kept.now result }
 {
