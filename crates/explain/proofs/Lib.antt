@@ -1,0 +1,9 @@
+pub mod Advancing
+pub mod Stepping
+pub mod Using
+pub mod Telling
+pub mod Causing
+pub mod Changing
+pub mod Explaining
+pub mod Listing
+pub mod Writing

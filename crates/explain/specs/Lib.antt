@@ -1,0 +1,4 @@
+pub mod Explanations
+pub mod Replays
+pub mod Searches
+pub mod Text

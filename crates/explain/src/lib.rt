@@ -1,0 +1,16 @@
+//! Which steps led to the first violation on each allocation: the step that made the node which the
+//! violation names, and the last step that changed the node's state there.
+#![tactic(auto)]
+
+mod causes;
+mod explained;
+mod last_change;
+mod replay;
+#[cfg(test)]
+mod tests;
+mod text;
+mod words;
+
+pub use causes::explain;
+pub use explained::Explained;
+pub use text::explain_text;
