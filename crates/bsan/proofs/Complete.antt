@@ -257,7 +257,6 @@ complete files hosts sink asked kept answer (inl told) job text input program we
     reported (Replay run) has finds (failed is rose prefix) = absurd (well.no_put_fault rose)
     reported (Replay run) has finds (no_memory is keeps) = inr is
     reported (Replay run) has finds (whole is appends) = inl (record { right = replayed run has finds.1; status = is; text = appends })
-
     reported (Run run) has finds (failed is rose prefix) = absurd (well.no_put_fault rose)
     reported (Run run) has finds (no_memory is keeps) = inr is
     reported (Run run) has finds (whole is appends) = inl (record { right = right run has finds.1; status = is; text = appends })

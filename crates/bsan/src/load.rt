@@ -96,11 +96,7 @@ fn unread(fault: ReadFault) -> Result<Outcome, NoMemory>
 /// # Errors
 ///
 /// `NoMemory`: out of memory.
-fn parse(
-    alloc: Global,
-    text: &[u8],
-    hosts: &Hosts,
-) -> Result<Result<Verified, Outcome>, NoMemory>
+fn parse(alloc: Global, text: &[u8], hosts: &Hosts) -> Result<Result<Verified, Outcome>, NoMemory>
     ensures { IfOk result (λ parsed. MatchResult parsed (IsParsed hosts.now.table text.now) (IsNoProgram hosts.now.table text.now)) }
 {
     let program = match read(alloc, text) {
