@@ -300,11 +300,11 @@ fn answer<S: Files, K: Sink>(
 ///
 /// The races are a line for each, the earlier of its two steps first, then `races N` and `status S`.
 ///
-/// This contract is on the way to one about native threads as well:
+/// This is the contract of [`bsan`](crate::bsan), for one native thread:
 ///
 /// > For every accepted program and input, and however its threads interleave, each allocation's accesses, retags, protector ends and free form one history, ordered by stamps, that holds each thread's calls in program order and once; every reply and verdict is eager Tree Borrows' at that point; the printed reports are exactly the first violations; and the stamped steps merged are a run of the uninstrumented program.
 ///
-/// It claims this sentence for one native thread, under every schedule, where a run is made: memory may run out first. After
+/// It claims this sentence under every schedule, where a run is made: memory may run out first. After
 /// a run `kept` is that of the replay of the program that was read, with the input that was read, by the schedule and
 /// within the limits of the words, and it is a right record, its erasure included. After `solo` and `replay` the text
 /// that is put is the report of `kept`, whose violation lines are the first violations. After `races` it has a line for
