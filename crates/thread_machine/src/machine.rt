@@ -130,7 +130,7 @@ impl<'p> Machine<'p> {
         ensures err { OnErr result (self.new ≡ self.old) }
     {
         if !self.prepared {
-            self.spare = self.state.make_room(self.target)?;
+            self.state.make_room(self.target, &mut self.spare)?;
             self.prepared = true;
         }
         Ok(())
@@ -143,8 +143,7 @@ impl<'p> Machine<'p> {
         ensures { self.new ≡ record self.old { thread = thread_turn self.old.setting self.old.thread; prepared = false } }
     {
         self.prepared = false;
-        let spare = self.spare.take();
-        self.state.turn(self.target, self.input, spare);
+        self.state.turn(self.target, self.input, &mut self.spare);
     }
 
     /// Goes on with the reply to what the thread asks, where it was prepared.

@@ -1,6 +1,6 @@
 //! The memory that a thread takes before a part of an instruction.
-ghost use Rattle.std.specs.Prelude.{◌≡◌, IfOk};
-ghost use Rattle.thread_machine.specs.Ready.{IsReady};
+ghost use Rattle.std.specs.Prelude.{◌≡◌, ◌≤◌, OnOk};
+ghost use Rattle.thread_machine.specs.Ready.{HasSpare, IsReady};
 
 use crate::calls::Spare;
 use crate::starts::new_spare;
@@ -11,27 +11,49 @@ use perm_table::Guard;
 use target_code::{Line, Target};
 
 impl<'p> ThreadState<'p> {
-    /// Takes the memory that the next part needs, and answers what was made for a call. The thread stays as it was,
-    /// whatever is answered.
+    /// Takes the memory that a call of a function needs, and keeps what was made for it in `spare`. The thread stays as
+    /// it was, whatever is answered.
+    ///
+    /// # Errors
+    ///
+    /// `NoMemory`: out of memory.
+    fn make_call_room(
+        &mut self,
+        target: &'p Target,
+        function: u32,
+        spare: &mut Option<Spare<'p>>,
+    ) -> Result<(), NoMemory>
+        ensures thread { self.new.thread ≡ self.old.thread }
+        ensures width { self.new.width ≡ self.old.width }
+        ensures room { OnOk result (1 ≤ self.new.room.callers) }
+        ensures spare { OnOk result (HasSpare target.now self.old.width function spare.new) }
+    {
+        let alloc = *self.callers.allocator();
+        self.callers.reserve(1)?;
+        *spare = Some(new_spare(alloc, target, function, self.row.width())?);
+        Ok(())
+    }
+
+    /// Takes the memory that the next part needs, and keeps in `spare` what was made for a call. The thread stays as it
+    /// was, whatever is answered.
     ///
     /// # Errors
     ///
     /// `NoMemory`: out of memory, or the count of instructions can't rise.
-    pub fn make_room(&mut self, target: &'p Target) -> Result<Option<Spare<'p>>, NoMemory>
+    pub fn make_room(
+        &mut self,
+        target: &'p Target,
+        spare: &mut Option<Spare<'p>>,
+    ) -> Result<(), NoMemory>
         ensures thread { self.new.thread ≡ self.old.thread }
         ensures width { self.new.width ≡ self.old.width }
-        ensures ready { IfOk result (λ spare. IsReady target.now self.new spare) }
+        ensures ready { OnOk result (IsReady target.now self.new spare.new) }
     {
         if self.count == u64::MAX {
             return Err(NoMemory);
         }
-        let alloc = *self.callers.allocator();
         match self.top.next_line() {
-            Some(Line::Call { function }) => {
-                self.callers.reserve(1)?;
-                let spare = new_spare(alloc, target, *function, self.row.width())?;
-                return Ok(Some(spare));
-            }
+            Some(Line::Call { function }) => self.make_call_room(target, *function, spare)?,
             Some(
                 Line::Make {
                     place: Place::Stack,
@@ -45,9 +67,12 @@ impl<'p> ThreadState<'p> {
                 },
             ) => self.owned.reserve_protector()?,
             Some(Line::Spawn { .. }) => self.owned.reserve_child()?,
-            Some(Line::CheckCopy { .. }) => self.copying.reserve(alloc)?,
+            Some(Line::CheckCopy { .. }) => {
+                let alloc = *self.callers.allocator();
+                self.copying.reserve(alloc)?;
+            }
             _ => {}
         }
-        Ok(None)
+        Ok(())
     }
 }

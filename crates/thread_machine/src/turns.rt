@@ -1,7 +1,7 @@
 //! Local turns.
-ghost use Rattle.std.specs.Prelude.{◌≡◌, ◌+◌, ◌<◌, ◌^◌, drop};
-ghost use Rattle.thread_machine.specs.Thread.{at_lines, branch_lines, branched, counted, lines_turn, word_of};
-ghost use Rattle.thread_machine.specs.Ready.{CallReady, HasRoom};
+ghost use Rattle.std.specs.Prelude.{◌≡◌, ◌+◌, ◌<◌, ◌≤◌, ◌^◌, drop};
+ghost use Rattle.thread_machine.specs.Thread.{at_lines, branch_lines, branched, call_by, counted, lines_turn, word_of};
+ghost use Rattle.thread_machine.specs.Ready.{CallReady, HasRoom, HasSpare};
 ghost use Rattle.thread_machine.specs.Views.{CallersFit, FitsRow, FitsTarget, setting};
 
 use crate::calls::Spare;
@@ -36,13 +36,36 @@ impl<'p> ThreadState<'p> {
         self.jump(target, input);
     }
 
+    /// Calls the function of this number, and takes what was made for the call.
+    fn call_with(
+        &mut self,
+        target: &'p Target,
+        input: &[u8],
+        function: u32,
+        spare: &mut Option<Spare<'p>>,
+    )
+        requires room { 1 ≤ self.old.room.callers }
+        requires spare { HasSpare target.now self.old.width function spare.old }
+        requires target { FitsTarget self.old.width target.now }
+        requires row { FitsRow self.old.width self.old.thread.top.rest }
+        requires callers { CallersFit self.old.width self.old.thread.callers }
+        ensures goes { self.new.thread ≡ call_by (setting target.now input.now) self.old.thread function (drop 1 self.old.thread.top.rest) }
+        ensures row { FitsRow self.new.width self.new.thread.top.rest }
+        ensures callers { CallersFit self.new.width self.new.thread.callers }
+        ensures width { self.new.width ≡ self.old.width }
+    {
+        if let Some(spare) = spare.take() {
+            self.call(target, input, function, spare);
+        }
+    }
+
     /// Does what the line that is next says, where that makes no step; a call takes what was made for it.
-    fn turn_line(&mut self, target: &'p Target, input: &[u8], spare: Option<Spare<'p>>)
+    fn turn_line(&mut self, target: &'p Target, input: &[u8], spare: &mut Option<Spare<'p>>)
         requires row { FitsRow self.old.width self.old.thread.top.rest }
         requires callers { CallersFit self.old.width self.old.thread.callers }
         requires target { FitsTarget self.old.width target.now }
         requires room { HasRoom self.old.room self.old.thread.top.rest }
-        requires call { CallReady target.now self.old.width spare self.old.thread.top.rest }
+        requires call { CallReady target.now self.old.width spare.old self.old.thread.top.rest }
         ensures goes { self.new.thread ≡ lines_turn (setting target.now input.now) self.old.thread self.old.thread.top.rest }
         ensures row { FitsRow self.new.width self.new.thread.top.rest }
         ensures callers { CallersFit self.new.width self.new.thread.callers }
@@ -52,23 +75,19 @@ impl<'p> ThreadState<'p> {
             Some(Line::Turn { .. }) => self.cross(input),
             Some(Line::Branch { cond }) => self.branch(target, input, *cond),
             Some(Line::Jump { .. }) => self.jump(target, input),
-            Some(Line::Call { function }) => {
-                if let Some(spare) = spare {
-                    self.call(target, input, *function, spare);
-                }
-            }
+            Some(Line::Call { function }) => self.call_with(target, input, *function, spare),
             Some(Line::Return) => self.return_on(input),
             _ => {}
         }
     }
 
     /// Does one local instruction.
-    pub fn turn(&mut self, target: &'p Target, input: &[u8], spare: Option<Spare<'p>>)
+    pub fn turn(&mut self, target: &'p Target, input: &[u8], spare: &mut Option<Spare<'p>>)
         requires row { FitsRow self.old.width self.old.thread.top.rest }
         requires callers { CallersFit self.old.width self.old.thread.callers }
         requires target { FitsTarget self.old.width target.now }
         requires room { HasRoom self.old.room self.old.thread.top.rest }
-        requires call { CallReady target.now self.old.width spare self.old.thread.top.rest }
+        requires call { CallReady target.now self.old.width spare.old self.old.thread.top.rest }
         requires count { self.old.thread.count + 1 < 2 ^ 64 }
         ensures goes { self.new.thread ≡ lines_turn (setting target.now input.now) (counted self.old.thread) self.old.thread.top.rest }
         ensures row { FitsRow self.new.width self.new.thread.top.rest }
