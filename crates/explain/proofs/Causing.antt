@@ -217,6 +217,7 @@ module _ (number : ℕ) (es : List Entry) (len : ℕ) (q : IsQuiet number es len
     where
       tested : (a b : ℕ) → a ≡ b → (a == b) ≡ true
       tested a b h = grind (arith, nat_tests)
+
       untested : (a b : ℕ) → (a == b) ≡ true → a ≡ b
       untested a b h = grind (arith, nat_tests)
 
@@ -225,13 +226,14 @@ module _ (number : ℕ) (es : List Entry) (len : ℕ) (q : IsQuiet number es len
       told_where (IsFreer (take len es)) (find frees (take len es))
       (found_where frees h.0 h.1 h.2)
       (λ e is.
-          let f = find_has frees (take len es) e is in
-          let both = and_parts (is_free e.request) (is_done e.reply.plain) f.1 in
-          record { among = f.0; asked = both.0; done = done_is e.reply.plain both.1 })
+      let f = find_has frees (take len es) e is in
+      let both = and_parts (is_free e.request) (is_done e.reply.plain) f.1 in
+      record { among = f.0; asked = both.0; done = done_is e.reply.plain both.1 })
     where
       and_parts : (a b : Bool) → (a && b) ≡ true → (a ≡ true) × (b ≡ true)
       and_parts true b h = (refl, h)
       and_parts false b h = absurd (let never : false ≡ true = h in cc)
+
       done_is : (p : Plain) → is_done p ≡ true → p ≡ Done
       done_is Done h = refl
       done_is p h = absurd (cc)

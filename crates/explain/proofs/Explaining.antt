@@ -70,9 +70,10 @@ module _ (log : AllocLog) (at : ℕ) (lt : at < length log.entries) (q : IsQuiet
       → maker ≡ find (λ e. e.stamp.0 == x.0) (take at log.entries) → MatchOption changer (perm_at log x offset at ≡ None) (IsChanger log.number.0 (take at log.entries) x offset)
       → IsTold maker (IsMaker (take at log.entries) x) × IsTold changer (IsChanger log.number.0 (take at log.entries) x offset)
   node_causes v x offset perm maker changer there found last =
-      let k = known v x offset perm there in
-      (subst (λ (o : Option Entry). IsTold o (IsMaker (take at log.entries) x)) (sym found) (maker_told log.number.0 log.entries at q v x k.stamp),
-       changer_told changer x offset perm k.perm_is last)
+      let k = known v x offset perm there in (
+        subst (λ (o : Option Entry). IsTold o (IsMaker (take at log.entries) x)) (sym found) (maker_told log.number.0 log.entries at q v x k.stamp),
+        changer_told changer x offset perm k.perm_is last,
+      )
 
   explained_by : (v : Entry) (maker changer : Option Entry) → get_or log.entries at v ≡ v → AreCauses log.number.0 (take at log.entries) v.reply.verdict maker changer → IsExplainedBy log (record { violation = v; maker = maker; changer = changer })
   explained_by v maker changer here causes = record {
@@ -102,9 +103,11 @@ module _ (log : AllocLog) (at : ℕ) (lt : at < length log.entries) (q : IsQuiet
   explained_freed v changer here is found =
       let m = made_or (object_at log.number.0 log.entries at).made (λ m. m.memory.live ≡ false) (told_at v Freed here is) in
       explained_by v None changer here
-      (subst (λ (w : Verdict). AreCauses log.number.0 (take at log.entries) w None changer) (sym is)
-      (refl, subst (λ (o : Option Entry). IsTold o (IsFreer (take at log.entries))) (sym found)
-      (freer_told log.number.0 log.entries at q v (freed_told log.number.0 log.entries at q v m.0 m.1 m.2))))
+      (subst (λ (w : Verdict). AreCauses log.number.0 (take at log.entries) w None changer) (sym is) (
+        refl,
+        subst (λ (o : Option Entry). IsTold o (IsFreer (take at log.entries))) (sym found)
+            (freer_told log.number.0 log.entries at q v (freed_told log.number.0 log.entries at q v m.0 m.1 m.2)),
+      ))
 
   pub explained_range : (v : Entry) (maker : Option Entry) → get_or log.entries at v ≡ v → v.reply.verdict ≡ Violated OutOfRange → maker ≡ find is_make_step (take at log.entries) → IsExplainedBy log (record { violation = v; maker = maker; changer = None })
   explained_range v maker here is found =

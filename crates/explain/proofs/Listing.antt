@@ -88,16 +88,16 @@ pub sorted_violations : (xs ys : List Explained) → IsNonDecreasingBy key_of ys
 sorted_violations xs ys up stable =
     unique (map violation_of ys) (by_stamp (map violation_of xs))
     (rises_from (map violation_of ys) (λ i j d le lt.
-        let inside : j < length ys = omega (arith, lt, length-map ys violation_of) in
-        let x : Explained = record { violation = d; maker = None; changer = None } in
-        let a : get_or (map violation_of ys) i d ≡ violation_of (get_or ys i x) = get_or-map violation_of ys i x d (omega arith) in
-        let b : get_or (map violation_of ys) j d ≡ violation_of (get_or ys j x) = get_or-map violation_of ys j x d inside in
-        let less : stamp_of (violation_of (get_or ys i x)) ≤ stamp_of (violation_of (get_or ys j x)) = up i j x le inside in
-        let c : stamp_of (get_or (map violation_of ys) i d) ≡ stamp_of (violation_of (get_or ys i x)) = ap stamp_of a in
-        let e : stamp_of (get_or (map violation_of ys) j d) ≡ stamp_of (violation_of (get_or ys j x)) = ap stamp_of b in
-        omega (arith, less, c, e)))
+    let inside : j < length ys = omega (arith, lt, length-map ys violation_of) in
+    let x : Explained = record { violation = d; maker = None; changer = None } in
+    let a : get_or (map violation_of ys) i d ≡ violation_of (get_or ys i x) = get_or-map violation_of ys i x d (omega arith) in
+    let b : get_or (map violation_of ys) j d ≡ violation_of (get_or ys j x) = get_or-map violation_of ys j x d inside in
+    let less : stamp_of (violation_of (get_or ys i x)) ≤ stamp_of (violation_of (get_or ys j x)) = up i j x le inside in
+    let c : stamp_of (get_or (map violation_of ys) i d) ≡ stamp_of (violation_of (get_or ys i x)) = ap stamp_of a in
+    let e : stamp_of (get_or (map violation_of ys) j d) ≡ stamp_of (violation_of (get_or ys j x)) = ap stamp_of b in
+    omega (arith, less, c, e)))
     (by_stamp_rises (map violation_of xs))
     (λ e.
-        let x : Explained = record { violation = e; maker = None; changer = None } in
-        sym (ties_mapped x ys) ∙ ap (map violation_of) (stable x) ∙ ties_mapped x xs
-        ∙ sym (with_stamp-by_stamp (stamp_of e) (map violation_of xs)))
+    let x : Explained = record { violation = e; maker = None; changer = None } in
+    sym (ties_mapped x ys) ∙ ap (map violation_of) (stable x) ∙ ties_mapped x xs
+    ∙ sym (with_stamp-by_stamp (stamp_of e) (map violation_of xs)))

@@ -276,14 +276,15 @@ placed (node ∷ nodes) n (inr h) = let p = placed nodes n h in (suc p.0, omega 
 rises : (nodes : List Node) → AllPairs (λ x y. x < y) (map (λ (n : Node). n.tag.0) nodes) → Rises nodes
 rises [] h = tt
 rises (node ∷ nodes) h = (
-    λ n among.
-        let p = placed nodes n among in
-        let long : suc p.0 < length (map (λ (x : Node). x.tag.0) (node ∷ nodes)) = omega (arith, length-map (node ∷ nodes) (λ (x : Node). x.tag.0), p.1) in
-        let less : node.tag.0 < get_or (map (λ (x : Node). x.tag.0) nodes) p.0 0 = h 0 (suc p.0) 0 (omega arith) long in
-        let at : get_or (map (λ (x : Node). x.tag.0) nodes) p.0 0 ≡ (get_or nodes p.0 n).tag.0 = get_or-map (λ (x : Node). x.tag.0) nodes p.0 n 0 p.1 in
-        let is : (get_or nodes p.0 n).tag.0 ≡ n.tag.0 = ap (λ (x : Node). x.tag.0) p.2 in
-        omega (arith, less, at, is),
-    rises nodes (λ i j d less lt. h (suc i) (suc j) d (omega arith) (omega arith)))
+  λ n among.
+      let p = placed nodes n among in
+      let long : suc p.0 < length (map (λ (x : Node). x.tag.0) (node ∷ nodes)) = omega (arith, length-map (node ∷ nodes) (λ (x : Node). x.tag.0), p.1) in
+      let less : node.tag.0 < get_or (map (λ (x : Node). x.tag.0) nodes) p.0 0 = h 0 (suc p.0) 0 (omega arith) long in
+      let at : get_or (map (λ (x : Node). x.tag.0) nodes) p.0 0 ≡ (get_or nodes p.0 n).tag.0 = get_or-map (λ (x : Node). x.tag.0) nodes p.0 n 0 p.1 in
+      let is : (get_or nodes p.0 n).tag.0 ≡ n.tag.0 = ap (λ (x : Node). x.tag.0) p.2 in
+      omega (arith, less, at, is),
+  rises nodes (λ i j d less lt. h (suc i) (suc j) d (omega arith) (omega arith)),
+)
 
 apart : (a b : ℕ) → a < b → (a == b) ≡ false
 apart a b lt = grind (arith, nat_tests)
