@@ -1,5 +1,5 @@
 -- What is found in a text that is no program's, in a file without a program, and in one with it.
-use Rattle.std.proofs.Common.{◌≡◌, ◌≢◌, ◌≤◌, ◌+◌, ◌-◌, ◌^◌, min, List, ℕ, Option, Some, None, Result, Ok, Err, MatchResult, MatchOption, IfOk, refl, sym, ap, subst, ◌∙◌, arith}
+use Rattle.std.proofs.Common.{◌≡◌, ◌≢◌, ◌≤◌, List, ℕ, Option, Some, None, Result, Ok, Err, MatchResult, refl, sym, ap, subst, ◌∙◌, arith}
 use Rattle.std.specs.Option.{option_map, IsSomeAnd}
 use Rattle.bsan_ids.specs.declared.numbers.NoMemory.{NoMemory}
 use Rattle.command_words.specs.Jobs.{Job, NativeRun, ScheduledRun, native_in, on_one_thread}

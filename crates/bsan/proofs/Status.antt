@@ -1,17 +1,13 @@
 -- From the answer of the top call back to what was found.
-use Rattle.std.proofs.Common.{zero, suc, ◌≡◌, ◌≢◌, ◌<◌, ◌≤◌, ◌==◌, ◌||◌, ◌⊎◌, ℕ, Bool, true, false, true≢false, not, List, [], length, Option, Some, None, if◌then◌else◌, nat_le, refl, sym, ap, subst, ◌∙◌, arith, inl, inr}
-use Rattle.std.specs.List.{list_any}
+use Rattle.std.proofs.Common.{zero, suc, ◌≡◌, ◌≢◌, ◌<◌, ◌≤◌, ◌==◌, ◌||◌, ◌⊎◌, ℕ, Bool, true, false, true≢false, not, List, length, Option, Some, None, if◌then◌else◌, nat_le, refl, sym, ap, ◌∙◌, arith, inl, inr}
 use Rattle.std.specs.Option.{IsSomeAnd}
 use Rattle.std.specs.Io.KnownBytes.{Appends}
 use Rattle.std.proofs.lemmas.Bool.{leb-true}
 use Rattle.command_words.specs.Jobs.{Job}
 use Rattle.ir_ast.specs.declared.hosts.HostTable.{HostTable}
-use Rattle.ir_ast.specs.declared.program.Program.{Program}
 use Rattle.ir_text.specs.Bytes.{most_bytes}
-use Rattle.target_code.specs.Texts.{target_text}
-use Rattle.target_code.specs.declared.line.Target.{Target}
 use Rattle.history.specs.declared.record.RunRecord.{RunRecord}
-use Rattle.history.specs.Records.{empty_record, has_violation}
+use Rattle.history.specs.Records.{empty_record}
 use Rattle.ir_rules.specs.Rules.{IsAccepted}
 use Rattle.race_check.specs.Text.{race_text}
 use Rattle.race_check.specs.declared.race.Race.{Race}
@@ -19,7 +15,7 @@ use Rattle.report.specs.Report.{status_of, any_end, is_no_memory, is_limit, is_t
 use Rattle.bsan.specs.Words.{Text, input_in}
 use Rattle.bsan.specs.Seen.{FilesSeen, SinkSeen, Failed, WasTooLong, IsFault, Puts}
 use Rattle.bsan.specs.Seen.Puts.{whole, failed, no_memory}
-use Rattle.bsan.specs.Answer.{OfFile, OfText, OfProgram, OfJob, HasCause, Answers, text_for, status_for}
+use Rattle.bsan.specs.Answer.{OfText, OfProgram, OfJob, HasCause, Answers, text_for, status_for}
 use Rattle.bsan.specs.Causes.{IsCutShort, IsRefused, IsBrokenFirst, IsUnread, HasUnreadInput, ReadCause, TellsRun, RanWhole, RanWith, RacedWhole, AcceptedWhole, InstrumentedWhole, RunCause, PutNothing, MemoryCause, LeavesNone, has_violations}
 use Rattle.bsan.proofs.Reportable.{left}
 use Rattle.bsan.specs.declared.outcome.Role.TheVariants as role
