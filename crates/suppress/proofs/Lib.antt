@@ -1,5 +1,6 @@
 pub mod Texts
 pub mod Reading
+pub mod Refusing
 pub mod Places
 pub mod Shown
 pub mod Samples

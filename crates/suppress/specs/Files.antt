@@ -20,6 +20,13 @@ AreRules functions (line ∷ lines) rules =
     (Reads functions line reading.Blank × AreRules functions lines rules)
     ⊎ ((rule : Rule) × (more : List Rule) × (rules ≡ rule ∷ more) × Reads functions line (reading.Rule rule) × AreRules functions lines more)
 
+-- a reading for which a file is refused
+abbrev pub IsRefusal : Reading → Type 0
+IsRefusal reading.NoFunction = Unit {0}
+IsRefusal reading.Bad = Unit {0}
+IsRefusal reading.Blank = ⊥
+IsRefusal (reading.Rule rule) = ⊥
+
 -- the line of this number, counted from 1, is read so, and no line before it is refused
 pub record IsFirstRefused (functions : List Function) (lines : List (List ℕ)) (number : ℕ) (why : Reading) : Type 0 where
   pub before : List (List ℕ)

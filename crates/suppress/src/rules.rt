@@ -1,6 +1,5 @@
 //! Rules, and what they hold.
 ghost use Rattle.std.specs.Prelude.{◌≡◌};
-ghost use Rattle.std.specs.List.{list_any};
 ghost use Rattle.suppress.specs.Rules as held;
 
 use crate::case::{Case, Cause};

@@ -1,6 +1,6 @@
 //! The report of a run without the violations that rules hold, and its status.
-ghost use Rattle.std.specs.Prelude.{◌≡◌, ◌==◌, ◌&&◌, not, if◌then◌else◌, ◌++◌, All, IfOk, IsTrue, count_by, filter, length, string_bytes};
-ghost use Rattle.std.specs.List.{flat_map, list_any};
+ghost use Rattle.std.specs.Prelude.{◌≡◌, ◌==◌, ◌&&◌, not, if◌then◌else◌, All, IfOk, IsTrue, count_by, filter, length, string_bytes};
+ghost use Rattle.std.specs.List.{flat_map};
 ghost use Rattle.history.specs.Records.{violates, first_violation};
 ghost use Rattle.report.specs.Report.{IsReportable};
 ghost use Rattle.report.specs.Violation.{IsDescribable};
