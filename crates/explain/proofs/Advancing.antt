@@ -1,12 +1,11 @@
 -- One step of an allocation before its first violation: what it leaves is told by the entry alone.
-use Rattle.std.proofs.Common.{◌≡◌, ℕ, zero, suc, ◌+◌, ◌≤◌, ◌==◌, ◌&&◌, ◌||◌, nat_le, not, is_some, Bool, true, false, cond, if◌then◌else◌, IsTrue, Option, Some, None, MatchOption, List, [], ◌∷◌, ◌++◌, length, map, take, All, slice_get, get_or, ◌<◌, refl, sym, ap, subst, ◌∙◌, arith, length-append, length-take, length-take-le, length-drop}
-use Rattle.std.specs.Option.{option_map, option_map_or}
+use Rattle.std.proofs.Common.{◌≡◌, ℕ, zero, suc, ◌+◌, ◌≤◌, ◌==◌, ◌&&◌, ◌||◌, nat_le, not, is_some, Bool, true, false, if◌then◌else◌, IsTrue, Option, Some, None, MatchOption, List, [], ◌∷◌, ◌++◌, length, map, take, All, slice_get, get_or, ◌<◌, refl, sym, ap, subst, ◌∙◌, arith, length-append, length-take, length-take-le, length-drop}
+use Rattle.std.specs.Option.{option_map}
 use Rattle.std.proofs.lemmas.Bool.{ltb-false}
 use Rattle.std.proofs.lemmas.Bool.Decides.{nat_tests}
 use Rattle.std.proofs.lemmas.List.{length-replicate, length-map}
 use Rattle.std.proofs.lemmas.List.Elements.{All-map, All-cons, All-nil}
 use Rattle.bsan_ids.specs.declared.numbers.Tag.{Tag}
-use Rattle.bsan_ids.specs.declared.numbers.Stamp.{Stamp}
 use Rattle.bsan_ids.specs.declared.numbers.Span.{Span}
 use Rattle.bsan_ids.specs.declared.numbers.Prov.{Prov}
 use Rattle.perm_table.specs.declared.Kind.{Kind}
@@ -23,11 +22,11 @@ use Rattle.ir_ast.specs.declared.types.Width.TheVariants.{W8, W16, W32, W64}
 use Rattle.ir_ast.specs.Words.{width_bytes, ty_bytes, bytes_of}
 use Rattle.eager_tree.specs.declared.node.Node.{Node}
 use Rattle.eager_tree.specs.declared.violation.Violation.{Violation}
-use Rattle.eager_tree.specs.declared.violation.Violation.TheVariants.{Stranger, Freed as WasFreed, OutOfRange}
+use Rattle.eager_tree.specs.declared.violation.Violation.TheVariants.{Freed as WasFreed, OutOfRange}
 use Rattle.eager_tree.specs.declared.sweep.Sweep.TheVariants.{Access as AccessSweep}
 use Rattle.eager_tree.specs.Tree.{Tree, IsTree, has_tag, is_node, new_tree, links}
 use Rattle.eager_tree.specs.Visit.{visit, visit_unless, first_denial, next_nodes}
-use Rattle.eager_tree.specs.Steps.{access, retag, end_protector, free_all, with_node, new_node, unguarded, freed_guard, freed_unless, strong_free, on_span, implicit_kinds, is_no_descendant}
+use Rattle.eager_tree.specs.Steps.{access, retag, end_protector, with_node, new_node, unguarded, freed_guard, freed_unless, strong_free, on_span, implicit_kinds, is_no_descendant}
 use Rattle.eager_tree.proofs.Trees.{IsTree-linked, IsTree-visited, links-freed, length-new_cells, grown}
 use Rattle.history.specs.declared.trap.Trap.{Trap}
 use Rattle.history.specs.declared.trap.Trap.TheVariants.{OutOfBounds, Freed, BadFree}
@@ -35,7 +34,7 @@ use Rattle.history.specs.declared.entry.Entry.{Entry}
 use Rattle.history.specs.declared.entry.Reply.{Reply}
 use Rattle.history.specs.declared.entry.Request.{Request}
 use Rattle.history.specs.declared.entry.Request.TheVariants.{Make, Load, Store, Modify, CmpXchg, CopyOut, CopyIn, Retag, EndProtector, Free, Print, Host, Spawn, Join}
-use Rattle.history.specs.declared.entry.Verdict.TheVariants.{Clean, Closed, Violated}
+use Rattle.history.specs.declared.entry.Verdict.TheVariants.{Clean, Closed}
 use Rattle.history.specs.Memory.{Memory, put, span_of, is_outside, trap_in, next_memory, with_word, word_at}
 use Rattle.history.specs.Pieces.{Byte}
 use Rattle.history.specs.Fragments.{next_shadow}
@@ -333,20 +332,27 @@ span at len = record { start = at; len = len }
 
 load_data : (m : Made) (at : ℕ) (ty : Ty) (prov : Option Prov) → IsData m (Load at ty prov)
 load_data m at ty prov = record {
-  asks = λ live. refl; plain = refl; live = and_true m.memory.live; bytes = λ e. refl;
+  asks = λ live. refl;
+  plain = refl;
+  live = and_true m.memory.live;
+  bytes = λ e. refl;
   fits = λ e x. (one_ty ty, within m.memory (span at (ty_bytes ty)) false e);
 }
 
 store_data : (m : Made) (at : ℕ) (ty : Ty) (value : ℕ) (carried prov : Option Prov) → IsData m (Store at ty value carried prov)
 store_data m at ty value carried prov = record {
-  asks = λ live. refl; plain = refl; live = and_true m.memory.live;
+  asks = λ live. refl;
+  plain = refl;
+  live = and_true m.memory.live;
   bytes = λ e. word_kept m.memory at (ty_bytes ty) value (within m.memory (span at (ty_bytes ty)) false e);
   fits = λ e x. (one_ty ty, within m.memory (span at (ty_bytes ty)) false e);
 }
 
 modify_data : (m : Made) (at : ℕ) (width : Width) (op : ModifyOp) (value : ℕ) (prov : Option Prov) → IsData m (Modify at width op value prov)
 modify_data m at width op value prov = record {
-  asks = λ live. refl; plain = refl; live = and_true m.memory.live;
+  asks = λ live. refl;
+  plain = refl;
+  live = and_true m.memory.live;
   bytes = λ e. word_kept m.memory at (width_bytes width) _ (within m.memory (span at (width_bytes width)) false e);
   fits = λ e x. (one_width width, within m.memory (span at (width_bytes width)) false e);
 }
@@ -356,27 +362,37 @@ exchange_data m at width expected value prov =
     let n : Memory = with_word m.memory at (width_bytes width) value in
     let found : Bool = word_at m.memory at (width_bytes width) == expected in
     record {
-      asks = λ live. refl; plain = refl; live = cas_live found m.memory n refl ∙ and_true m.memory.live;
+      asks = λ live. refl;
+      plain = refl;
+      live = cas_live found m.memory n refl ∙ and_true m.memory.live;
       bytes = λ e. cas_bytes found m.memory n (word_kept m.memory at (width_bytes width) value (within m.memory (span at (width_bytes width)) false e));
       fits = λ e x. (one_width width, within m.memory (span at (width_bytes width)) false e);
     }
 
 out_data : (m : Made) (at len : ℕ) (prov : Option Prov) → IsTrue (fits (CopyOut at len prov)) → IsData m (CopyOut at len prov)
 out_data m at len prov fit = record {
-  asks = λ live. refl; plain = refl; live = and_true m.memory.live; bytes = λ e. refl;
+  asks = λ live. refl;
+  plain = refl;
+  live = and_true m.memory.live;
+  bytes = λ e. refl;
   fits = λ e x. (le_of 1 len (first_of_two (nat_le 1 len) (nat_le len 32) fit), within m.memory (span at len) false e);
 }
 
 in_data : (m : Made) (at : ℕ) (piece : List Byte) (prov : Option Prov) → IsTrue (fits (CopyIn at piece prov)) → IsData m (CopyIn at piece prov)
 in_data m at piece prov fit = record {
-  asks = λ live. refl; plain = refl; live = and_true m.memory.live;
+  asks = λ live. refl;
+  plain = refl;
+  live = and_true m.memory.live;
   bytes = λ e. length_put at (length piece) (map (λ (pair : Byte). pair.0) piece) m.memory.bytes (length-map piece (λ (pair : Byte). pair.0)) (within m.memory (span at (length piece)) false e);
   fits = λ e x. (le_of 1 (length piece) (first_of_two (nat_le 1 (length piece)) (nat_le (length piece) 32) fit), within m.memory (span at (length piece)) false e);
 }
 
 free_data : (m : Made) (at : ℕ) (stack : Bool) (prov : Option Prov) → IsData m (Free at stack prov)
 free_data m at stack prov = record {
-  asks = λ live. refl; plain = refl; live = free_live m.memory.live; bytes = λ e. refl;
+  asks = λ live. refl;
+  plain = refl;
+  live = free_live m.memory.live;
+  bytes = λ e. refl;
   fits = λ e x. tt;
 }
 
@@ -393,7 +409,7 @@ retag_open : (number : ℕ) (m : Made) (r : Reborrow) (stamp : ℕ) → m.closed
     ≡ (if not m.memory.live then violated m.tree WasFreed else if is_outside (length m.memory.bytes) r.span then violated m.tree OutOfRange else judged number m r.prov (λ x. retag m.tree x r.span r.kind r.guard (record { 0 = stamp })))
 retag_open number m r stamp h =
     ap (λ (b : Bool). if b then record { verdict = Closed; tree = m.tree; closed = true }
-        else if not m.memory.live then violated m.tree WasFreed else if is_outside (length m.memory.bytes) r.span then violated m.tree OutOfRange else judged number m r.prov (λ x. retag m.tree x r.span r.kind r.guard (record { 0 = stamp }))) h
+    else if not m.memory.live then violated m.tree WasFreed else if is_outside (length m.memory.bytes) r.span then violated m.tree OutOfRange else judged number m r.prov (λ x. retag m.tree x r.span r.kind r.guard (record { 0 = stamp }))) h
 
 retag_left : (number : ℕ) (m : Made) (e : Entry) (at len : ℕ) (kind : RetagKind) (guard : Guard) (prov : Option Prov) → IsOpen m → All (λ n. n.tag.0 < stamp_of e) m.tree.nodes → IsTrue (fits (Retag at len kind guard prov))
     → is_violation (answer (made_object number m) (Retag at len kind guard prov) e.stamp).reply.verdict ≡ false

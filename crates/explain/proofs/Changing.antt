@@ -1,5 +1,5 @@
 -- The last change that the search finds is the changer.
-use Rattle.std.proofs.Common.{◌≡◌, ◌⊎◌, ℕ, zero, suc, ◌+◌, ◌<◌, ◌≤◌, List, [], ◌∷◌, ◌++◌, length, take, drop, get_or, length-take-le, refl, sym, ap, subst, ◌∙◌, arith, inl, inr}
+use Rattle.std.proofs.Common.{◌≡◌, ◌⊎◌, ℕ, zero, suc, ◌+◌, ◌<◌, ◌≤◌, List, [], ◌∷◌, ◌++◌, length, take, drop, get_or, length-take-le, refl, sym, ap, ◌∙◌, arith, inl, inr}
 use Rattle.std.proofs.lemmas.Bool.{cases_lt}
 use Rattle.std.proofs.lemmas.List.{get_or-take}
 use Rattle.bsan_ids.specs.declared.numbers.Tag.{Tag}
@@ -60,7 +60,7 @@ changer_is log x offset len k d fits h =
       last = λ n. (
           let all : take k es ++ e ∷ take n (drop (k + 1) before) ≡ take (k + 1 + n) before =
           sym (ap (λ (ys : List Entry). ys ++ get_or before k d ∷ take n (drop (k + 1) before)) first
-              ∙ ap (λ (y : Entry). take k es ++ y ∷ take n (drop (k + 1) before)) own) ∙ taken before k n d within in
+          ∙ ap (λ (y : Entry). take k es ++ y ∷ take n (drop (k + 1) before)) own) ∙ taken before k n d within in
           ap (λ (ys : List Entry). perm_after number ys x offset) all
           ∙ stays n (cases_lt len (k + 1 + n))
           ∙ ap (λ (ys : List Entry). perm_after number ys x offset) up_to);

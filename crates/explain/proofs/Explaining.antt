@@ -1,19 +1,17 @@
 -- A violation of a log is explained by what the searches of the code find before it.
-use Rattle.std.proofs.Common.{◌≡◌, ℕ, ◌+◌, ◌<◌, ◌≤◌, ◌==◌, Bool, false, Option, Some, None, MatchOption, Result, Ok, Err, IfOk, List, ◌∷◌, ◌++◌, length, take, drop, All, get_or, refl, sym, ap, subst, ◌∙◌, arith}
+use Rattle.std.proofs.Common.{◌≡◌, ℕ, ◌+◌, ◌<◌, ◌==◌, false, Option, Some, None, MatchOption, Result, Ok, Err, IfOk, ◌∷◌, ◌++◌, length, take, drop, All, get_or, refl, sym, ap, subst, ◌∙◌, arith}
 use Rattle.std.specs.Prelude.{find}
 use Rattle.std.specs.Option.{option_and_then}
 use Rattle.bsan_ids.specs.declared.numbers.Tag.{Tag}
 use Rattle.perm_table.specs.declared.Perm.{Perm}
-use Rattle.eager_tree.specs.Tree.{Tree}
 use Rattle.eager_tree.specs.declared.violation.Violation.{Violation}
 use Rattle.eager_tree.specs.declared.violation.Violation.TheVariants.{Stranger, Freed, OutOfRange}
 use Rattle.history.specs.declared.entry.Entry.{Entry}
 use Rattle.history.specs.declared.entry.Reply.{Reply}
 use Rattle.history.specs.declared.entry.Verdict.{Verdict}
-use Rattle.history.specs.declared.entry.Verdict.TheVariants.{Clean, Closed, Violated}
+use Rattle.history.specs.declared.entry.Verdict.TheVariants.{Violated}
 use Rattle.history.specs.declared.log.AllocLog.{AllocLog}
 use Rattle.history.specs.Histories.{IsHistory, is_make_step}
-use Rattle.history.specs.Merge.{stamp_of}
 use Rattle.history.specs.Objects.{Made, unmade}
 use Rattle.history.specs.Records.{violates}
 use Rattle.explain.specs.declared.explained.Explained.{Explained}
@@ -23,7 +21,7 @@ use Rattle.explain.specs.Searches.{IsFoundFor, perm_at}
 use Rattle.explain.proofs.Advancing.{StandsOpen}
 use Rattle.explain.proofs.Stepping.{IsQuiet, object_at, opens_at, reply_at}
 use Rattle.explain.proofs.Telling.{IsIn, Tells, tells, named_node, named_perm}
-use Rattle.explain.proofs.Causing.{IsStamp, HasFreed, TagsIn, tags_at, maker_told, freer_told, freed_told, making_told}
+use Rattle.explain.proofs.Causing.{IsStamp, TagsIn, tags_at, maker_told, freer_told, freed_told, making_told}
 use Rattle.explain.proofs.Changing.{split_at}
 
 pub if_ok_map : {A E : Type 0} (r : Result A E) (P Q : A → Type 0) → ((x : A) → P x → Q x) → IfOk r P → IfOk r Q
@@ -70,9 +68,10 @@ module _ (log : AllocLog) (at : ℕ) (lt : at < length log.entries) (q : IsQuiet
       → maker ≡ find (λ e. e.stamp.0 == x.0) (take at log.entries) → MatchOption changer (perm_at log x offset at ≡ None) (IsChanger log.number.0 (take at log.entries) x offset)
       → IsTold maker (IsMaker (take at log.entries) x) × IsTold changer (IsChanger log.number.0 (take at log.entries) x offset)
   node_causes v x offset perm maker changer there found last =
-      let k = known v x offset perm there in
-      (subst (λ (o : Option Entry). IsTold o (IsMaker (take at log.entries) x)) (sym found) (maker_told log.number.0 log.entries at q v x k.stamp),
-       changer_told changer x offset perm k.perm_is last)
+      let k = known v x offset perm there in (
+        subst (λ (o : Option Entry). IsTold o (IsMaker (take at log.entries) x)) (sym found) (maker_told log.number.0 log.entries at q v x k.stamp),
+        changer_told changer x offset perm k.perm_is last,
+      )
 
   explained_by : (v : Entry) (maker changer : Option Entry) → get_or log.entries at v ≡ v → AreCauses log.number.0 (take at log.entries) v.reply.verdict maker changer → IsExplainedBy log (record { violation = v; maker = maker; changer = changer })
   explained_by v maker changer here causes = record {
@@ -102,9 +101,11 @@ module _ (log : AllocLog) (at : ℕ) (lt : at < length log.entries) (q : IsQuiet
   explained_freed v changer here is found =
       let m = made_or (object_at log.number.0 log.entries at).made (λ m. m.memory.live ≡ false) (told_at v Freed here is) in
       explained_by v None changer here
-      (subst (λ (w : Verdict). AreCauses log.number.0 (take at log.entries) w None changer) (sym is)
-      (refl, subst (λ (o : Option Entry). IsTold o (IsFreer (take at log.entries))) (sym found)
-      (freer_told log.number.0 log.entries at q v (freed_told log.number.0 log.entries at q v m.0 m.1 m.2))))
+      (subst (λ (w : Verdict). AreCauses log.number.0 (take at log.entries) w None changer) (sym is) (
+        refl,
+        subst (λ (o : Option Entry). IsTold o (IsFreer (take at log.entries))) (sym found)
+            (freer_told log.number.0 log.entries at q v (freed_told log.number.0 log.entries at q v m.0 m.1 m.2)),
+      ))
 
   pub explained_range : (v : Entry) (maker : Option Entry) → get_or log.entries at v ≡ v → v.reply.verdict ≡ Violated OutOfRange → maker ≡ find is_make_step (take at log.entries) → IsExplainedBy log (record { violation = v; maker = maker; changer = None })
   explained_range v maker here is found =

@@ -1,7 +1,6 @@
 -- The explanations of the logs, one after the other, and in stamp order.
-use Rattle.std.proofs.Common.{◌≡◌, ℕ, zero, suc, ◌+◌, ◌<◌, ◌≤◌, ◌==◌, Bool, true, false, cond, Option, Some, None, MatchOption, List, [], ◌∷◌, ◌++◌, length, map, take, drop, All, get_or, refl, sym, ap, subst, ◌∙◌, arith, append_assoc}
+use Rattle.std.proofs.Common.{◌≡◌, ℕ, zero, suc, ◌+◌, ◌<◌, ◌≤◌, ◌==◌, Bool, true, false, cond, Option, Some, None, List, [], ◌∷◌, ◌++◌, length, map, drop, get_or, refl, sym, ap, ◌∙◌, arith, append_assoc}
 use Rattle.std.specs.Prelude.{filter, find, nat_lt, position}
-use Rattle.std.specs.Option.{option_map}
 use Rattle.std.specs.List.{filter_map, cons_option, position_or_len}
 use Rattle.std.specs.List.Sorted.{IsNonDecreasingBy, IsStableByKey, ties}
 use Rattle.std.specs.Ordering.{nat_cmp, is_lt}
@@ -13,7 +12,7 @@ use Rattle.std.proofs.lemmas.Option.{slice_get_past}
 use Rattle.history.specs.declared.entry.Entry.{Entry}
 use Rattle.history.specs.declared.log.AllocLog.{AllocLog}
 use Rattle.history.specs.Merge.{stamp_of, by_stamp}
-use Rattle.history.specs.Records.{first_violation, violates}
+use Rattle.history.specs.Records.{first_violation}
 use Rattle.history.proofs.Order.{with_stamp, unique, rises_from, by_stamp_rises, with_stamp-by_stamp}
 use Rattle.explain.specs.declared.explained.Explained.{Explained}
 use Rattle.explain.specs.Explanations.{IsExplainedBy, IsExplainedIn}
@@ -88,16 +87,16 @@ pub sorted_violations : (xs ys : List Explained) → IsNonDecreasingBy key_of ys
 sorted_violations xs ys up stable =
     unique (map violation_of ys) (by_stamp (map violation_of xs))
     (rises_from (map violation_of ys) (λ i j d le lt.
-        let inside : j < length ys = omega (arith, lt, length-map ys violation_of) in
-        let x : Explained = record { violation = d; maker = None; changer = None } in
-        let a : get_or (map violation_of ys) i d ≡ violation_of (get_or ys i x) = get_or-map violation_of ys i x d (omega arith) in
-        let b : get_or (map violation_of ys) j d ≡ violation_of (get_or ys j x) = get_or-map violation_of ys j x d inside in
-        let less : stamp_of (violation_of (get_or ys i x)) ≤ stamp_of (violation_of (get_or ys j x)) = up i j x le inside in
-        let c : stamp_of (get_or (map violation_of ys) i d) ≡ stamp_of (violation_of (get_or ys i x)) = ap stamp_of a in
-        let e : stamp_of (get_or (map violation_of ys) j d) ≡ stamp_of (violation_of (get_or ys j x)) = ap stamp_of b in
-        omega (arith, less, c, e)))
+    let inside : j < length ys = omega (arith, lt, length-map ys violation_of) in
+    let x : Explained = record { violation = d; maker = None; changer = None } in
+    let a : get_or (map violation_of ys) i d ≡ violation_of (get_or ys i x) = get_or-map violation_of ys i x d (omega arith) in
+    let b : get_or (map violation_of ys) j d ≡ violation_of (get_or ys j x) = get_or-map violation_of ys j x d inside in
+    let less : stamp_of (violation_of (get_or ys i x)) ≤ stamp_of (violation_of (get_or ys j x)) = up i j x le inside in
+    let c : stamp_of (get_or (map violation_of ys) i d) ≡ stamp_of (violation_of (get_or ys i x)) = ap stamp_of a in
+    let e : stamp_of (get_or (map violation_of ys) j d) ≡ stamp_of (violation_of (get_or ys j x)) = ap stamp_of b in
+    omega (arith, less, c, e)))
     (by_stamp_rises (map violation_of xs))
     (λ e.
-        let x : Explained = record { violation = e; maker = None; changer = None } in
-        sym (ties_mapped x ys) ∙ ap (map violation_of) (stable x) ∙ ties_mapped x xs
-        ∙ sym (with_stamp-by_stamp (stamp_of e) (map violation_of xs)))
+    let x : Explained = record { violation = e; maker = None; changer = None } in
+    sym (ties_mapped x ys) ∙ ap (map violation_of) (stable x) ∙ ties_mapped x xs
+    ∙ sym (with_stamp-by_stamp (stamp_of e) (map violation_of xs)))

@@ -1,6 +1,6 @@
 -- What a violation tells of its allocation: the node that it names is in the tree and has the state that is
 -- named, a freed allocation is freed, and one that is out of its range is made.
-use Rattle.std.proofs.Common.{◌≡◌, ◌⊎◌, ℕ, zero, suc, ◌+◌, ◌<◌, ◌==◌, ◌&&◌, ◌||◌, not, Bool, true, false, if◌then◌else◌, Option, Some, None, MatchOption, List, [], ◌∷◌, length, map, All, get_or, slice_get, refl, sym, ap, subst, ◌∙◌, arith, inl, inr}
+use Rattle.std.proofs.Common.{◌≡◌, ◌⊎◌, ℕ, zero, suc, ◌<◌, ◌==◌, ◌&&◌, ◌||◌, not, Bool, true, false, if◌then◌else◌, Option, Some, None, MatchOption, List, [], ◌∷◌, length, map, All, get_or, slice_get, refl, sym, ap, subst, ◌∙◌, arith, inl, inr}
 use Rattle.std.specs.Option.{option_and_then, option_or, option_map}
 use Rattle.std.specs.List.{AllPairs}
 use Rattle.std.specs.List.Sorted.{IsStrictlyIncreasing}
@@ -26,7 +26,6 @@ use Rattle.eager_tree.specs.Steps.{access, retag, end_protector, with_node, new_
 use Rattle.history.specs.declared.trap.Trap.{Trap}
 use Rattle.history.specs.declared.entry.Request.{Request}
 use Rattle.history.specs.declared.entry.Request.TheVariants.{Make, Load, Store, Modify, CmpXchg, CopyOut, CopyIn, Retag, EndProtector, Free, Print, Host, Spawn, Join}
-use Rattle.history.specs.declared.entry.Verdict.{Verdict}
 use Rattle.history.specs.declared.entry.Verdict.TheVariants.{Clean, Closed, Violated}
 use Rattle.history.specs.Memory.{trap_in, is_outside, span_of}
 use Rattle.history.specs.Objects.{Object, Made, Judged, answer, data_unless, judged, judged_by, judged_through, node_through, retag_judged, end_judged, step_of, step_on, through, kind_of, violated, reborrow}
@@ -276,14 +275,15 @@ placed (node ∷ nodes) n (inr h) = let p = placed nodes n h in (suc p.0, omega 
 rises : (nodes : List Node) → AllPairs (λ x y. x < y) (map (λ (n : Node). n.tag.0) nodes) → Rises nodes
 rises [] h = tt
 rises (node ∷ nodes) h = (
-    λ n among.
-        let p = placed nodes n among in
-        let long : suc p.0 < length (map (λ (x : Node). x.tag.0) (node ∷ nodes)) = omega (arith, length-map (node ∷ nodes) (λ (x : Node). x.tag.0), p.1) in
-        let less : node.tag.0 < get_or (map (λ (x : Node). x.tag.0) nodes) p.0 0 = h 0 (suc p.0) 0 (omega arith) long in
-        let at : get_or (map (λ (x : Node). x.tag.0) nodes) p.0 0 ≡ (get_or nodes p.0 n).tag.0 = get_or-map (λ (x : Node). x.tag.0) nodes p.0 n 0 p.1 in
-        let is : (get_or nodes p.0 n).tag.0 ≡ n.tag.0 = ap (λ (x : Node). x.tag.0) p.2 in
-        omega (arith, less, at, is),
-    rises nodes (λ i j d less lt. h (suc i) (suc j) d (omega arith) (omega arith)))
+  λ n among.
+      let p = placed nodes n among in
+      let long : suc p.0 < length (map (λ (x : Node). x.tag.0) (node ∷ nodes)) = omega (arith, length-map (node ∷ nodes) (λ (x : Node). x.tag.0), p.1) in
+      let less : node.tag.0 < get_or (map (λ (x : Node). x.tag.0) nodes) p.0 0 = h 0 (suc p.0) 0 (omega arith) long in
+      let at : get_or (map (λ (x : Node). x.tag.0) nodes) p.0 0 ≡ (get_or nodes p.0 n).tag.0 = get_or-map (λ (x : Node). x.tag.0) nodes p.0 n 0 p.1 in
+      let is : (get_or nodes p.0 n).tag.0 ≡ n.tag.0 = ap (λ (x : Node). x.tag.0) p.2 in
+      omega (arith, less, at, is),
+  rises nodes (λ i j d less lt. h (suc i) (suc j) d (omega arith) (omega arith)),
+)
 
 apart : (a b : ℕ) → a < b → (a == b) ≡ false
 apart a b lt = grind (arith, nat_tests)

@@ -49,20 +49,25 @@ const MUT: RetagKind = RetagKind::Mut;
 
 const SHR: RetagKind = RetagKind::Shr;
 
-const fn node(alloc: u32, tag: u64) -> Option<Prov> {
-    Some(Prov {
-        alloc: AllocNo(alloc),
-        tag: Tag(tag),
-    })
-}
+const X: Option<Prov> = Some(Prov {
+    alloc: AllocNo(1),
+    tag: Tag(1),
+});
 
-const X: Option<Prov> = node(1, 1);
+const Y: Option<Prov> = Some(Prov {
+    alloc: AllocNo(1),
+    tag: Tag(2),
+});
 
-const Y: Option<Prov> = node(1, 2);
+const Z: Option<Prov> = Some(Prov {
+    alloc: AllocNo(1),
+    tag: Tag(4),
+});
 
-const Z: Option<Prov> = node(1, 4);
-
-const OTHER: Option<Prov> = node(2, 2);
+const OTHER: Option<Prov> = Some(Prov {
+    alloc: AllocNo(2),
+    tag: Tag(2),
+});
 
 /// The parent's read froze the child.
 const FROZEN: &[Step] = &[
@@ -74,7 +79,8 @@ const FROZEN: &[Step] = &[
     (6, 5, Ask::Free(true, X)),
 ];
 
-const FROZEN_TEXT: &str = "violation on allocation 1 by thread 0 at instruction 4, step 5: write 0..8 through tag 2: node 2 is Frozen at byte 0\n  node 2 made by thread 0 at instruction 1, step 2: retag mut 0..8 through tag 1\n  state Frozen since thread 0 at instruction 3, step 4: read 0..8 through tag 1\nthread 0 returned 0\nsteps 6, allocations 1, threads 1, violations 1\nstatus 1\n";
+const FROZEN_TEXT: &str =
+    "violation on allocation 1 by thread 0 at instruction 4, step 5: write 0..8 through tag 2: node 2 is Frozen at byte 0\n  node 2 made by thread 0 at instruction 1, step 2: retag mut 0..8 through tag 1\n  state Frozen since thread 0 at instruction 3, step 4: read 0..8 through tag 1\nthread 0 returned 0\nsteps 6, allocations 1, threads 1, violations 1\nstatus 1\n";
 
 /// A shared reborrow was frozen from its making on.
 const SHARED: &[Step] = &[
@@ -84,7 +90,8 @@ const SHARED: &[Step] = &[
     (4, 3, Ask::Free(true, X)),
 ];
 
-const SHARED_TEXT: &str = "violation on allocation 1 by thread 0 at instruction 2, step 3: write 0..8 through tag 2: node 2 is Frozen at byte 0\n  node 2 made by thread 0 at instruction 1, step 2: retag shr 0..8 through tag 1\n  state Frozen since thread 0 at instruction 1, step 2: retag shr 0..8 through tag 1\nthread 0 returned 0\nsteps 4, allocations 1, threads 1, violations 1\nstatus 1\n";
+const SHARED_TEXT: &str =
+    "violation on allocation 1 by thread 0 at instruction 2, step 3: write 0..8 through tag 2: node 2 is Frozen at byte 0\n  node 2 made by thread 0 at instruction 1, step 2: retag shr 0..8 through tag 1\n  state Frozen since thread 0 at instruction 1, step 2: retag shr 0..8 through tag 1\nthread 0 returned 0\nsteps 4, allocations 1, threads 1, violations 1\nstatus 1\n";
 
 /// A read of bytes beside the reborrow's accesses them, and leaves their state.
 const ACCESSED: &[Step] = &[
@@ -95,7 +102,8 @@ const ACCESSED: &[Step] = &[
     (5, 4, Ask::Store(8, Y)),
 ];
 
-const ACCESSED_TEXT: &str = "violation on allocation 1 by thread 0 at instruction 4, step 5: write 8..16 through tag 2: node 2 is Frozen at byte 8\n  node 2 made by thread 0 at instruction 1, step 2: retag shr 0..8 through tag 1\n  state Frozen since thread 0 at instruction 1, step 2: retag shr 0..8 through tag 1\nthread 0 returned 0\nsteps 5, allocations 1, threads 1, violations 1\nstatus 1\n";
+const ACCESSED_TEXT: &str =
+    "violation on allocation 1 by thread 0 at instruction 4, step 5: write 8..16 through tag 2: node 2 is Frozen at byte 8\n  node 2 made by thread 0 at instruction 1, step 2: retag shr 0..8 through tag 1\n  state Frozen since thread 0 at instruction 1, step 2: retag shr 0..8 through tag 1\nthread 0 returned 0\nsteps 5, allocations 1, threads 1, violations 1\nstatus 1\n";
 
 /// The end of a protector disabled what its node had written.
 const ENDED: &[Step] = &[
@@ -108,7 +116,8 @@ const ENDED: &[Step] = &[
     (7, 8, Ask::Free(true, X)),
 ];
 
-const ENDED_TEXT: &str = "violation on allocation 1 by thread 0 at instruction 7, step 6: read 0..8 through tag 4: node 4 is Disabled at byte 0\n  node 4 made by thread 0 at instruction 2, step 4: retag mut 8..16 through tag 1\n  state Disabled since thread 0 at instruction 3, step 5: end of protector 2\nthread 0 returned 0\nsteps 7, allocations 1, threads 1, violations 1\nstatus 1\n";
+const ENDED_TEXT: &str =
+    "violation on allocation 1 by thread 0 at instruction 7, step 6: read 0..8 through tag 4: node 4 is Disabled at byte 0\n  node 4 made by thread 0 at instruction 2, step 4: retag mut 8..16 through tag 1\n  state Disabled since thread 0 at instruction 3, step 5: end of protector 2\nthread 0 returned 0\nsteps 7, allocations 1, threads 1, violations 1\nstatus 1\n";
 
 const OUTSIDE: &[Step] = &[
     (1, 0, Ask::Make(8, STACK)),
@@ -117,7 +126,8 @@ const OUTSIDE: &[Step] = &[
     (4, 5, Ask::Free(true, X)),
 ];
 
-const OUTSIDE_TEXT: &str = "violation on allocation 1 by thread 0 at instruction 4, step 3: retag mut 1..9 through tag 1: out of range\n  allocation made by thread 0 at instruction 0, step 1: make 8 stack\nthread 0 returned 0\nsteps 4, allocations 1, threads 1, violations 1\nstatus 1\n";
+const OUTSIDE_TEXT: &str =
+    "violation on allocation 1 by thread 0 at instruction 4, step 3: retag mut 1..9 through tag 1: out of range\n  allocation made by thread 0 at instruction 0, step 1: make 8 stack\nthread 0 returned 0\nsteps 4, allocations 1, threads 1, violations 1\nstatus 1\n";
 
 /// A pointer of another allocation writes here.
 const STRANGER: &[Step] = &[
@@ -127,7 +137,8 @@ const STRANGER: &[Step] = &[
     (6, 6, Ask::Free(true, OTHER)),
 ];
 
-const STRANGER_TEXT: &str = "violation on allocation 2 by thread 0 at instruction 3, step 3: write 0..8 through tag 1 of allocation 1: stranger\n  no node of allocation 2 is named\nthread 0 returned 0\nsteps 4, allocations 1, threads 1, violations 1\nstatus 1\n";
+const STRANGER_TEXT: &str =
+    "violation on allocation 2 by thread 0 at instruction 3, step 3: write 0..8 through tag 1 of allocation 1: stranger\n  no node of allocation 2 is named\nthread 0 returned 0\nsteps 4, allocations 1, threads 1, violations 1\nstatus 1\n";
 
 const FREED: &[Step] = &[
     (1, 0, Ask::Make(8, HEAP)),
@@ -135,7 +146,8 @@ const FREED: &[Step] = &[
     (3, 2, Ask::Retag(0, 8, MUT, FREE)),
 ];
 
-const FREED_TEXT: &str = "violation on allocation 1 by thread 0 at instruction 2, step 3: retag mut 0..8 through tag 1: freed\n  allocation freed by thread 0 at instruction 1, step 2: free through tag 1\nthread 0 returned 0\nsteps 3, allocations 1, threads 1, violations 1\nstatus 1\n";
+const FREED_TEXT: &str =
+    "violation on allocation 1 by thread 0 at instruction 2, step 3: retag mut 0..8 through tag 1: freed\n  allocation freed by thread 0 at instruction 1, step 2: free through tag 1\nthread 0 returned 0\nsteps 3, allocations 1, threads 1, violations 1\nstatus 1\n";
 
 /// The free before the function's return was refused.
 const FREED_LATER: &[Step] = &[
@@ -145,7 +157,8 @@ const FREED_LATER: &[Step] = &[
     (4, 3, Ask::Retag(0, 8, MUT, FREE)),
 ];
 
-const FREED_LATER_TEXT: &str = "violation on allocation 1 by thread 0 at instruction 3, step 4: retag mut 0..8 through tag 1: freed\n  allocation freed by thread 0 at instruction 2, step 3: free through tag 1\nthread 0 returned 0\nsteps 4, allocations 1, threads 1, violations 1\nstatus 1\n";
+const FREED_LATER_TEXT: &str =
+    "violation on allocation 1 by thread 0 at instruction 3, step 4: retag mut 0..8 through tag 1: freed\n  allocation freed by thread 0 at instruction 2, step 3: free through tag 1\nthread 0 returned 0\nsteps 4, allocations 1, threads 1, violations 1\nstatus 1\n";
 
 const STRONG_FREE: &[Step] = &[
     (1, 2, Ask::Make(8, HEAP)),
@@ -154,7 +167,8 @@ const STRONG_FREE: &[Step] = &[
     (4, 1, Ask::EndProtector),
 ];
 
-const STRONG_FREE_TEXT: &str = "violation on allocation 1 by thread 0 at instruction 0, step 3: free through tag 2: strongly protected node 2 is Reserved at byte 0\n  node 2 made by thread 0 at instruction 0, step 2: retag mut 0..8 through tag 1\n  state Reserved since thread 0 at instruction 0, step 2: retag mut 0..8 through tag 1\nthread 0 returned 0\nsteps 4, allocations 1, threads 1, violations 1\nstatus 1\n";
+const STRONG_FREE_TEXT: &str =
+    "violation on allocation 1 by thread 0 at instruction 0, step 3: free through tag 2: strongly protected node 2 is Reserved at byte 0\n  node 2 made by thread 0 at instruction 0, step 2: retag mut 0..8 through tag 1\n  state Reserved since thread 0 at instruction 0, step 2: retag mut 0..8 through tag 1\nthread 0 returned 0\nsteps 4, allocations 1, threads 1, violations 1\nstatus 1\n";
 
 /// A load before the allocation was made, and no violation.
 const CLEAN: &[Step] = &[
@@ -233,7 +247,7 @@ fn is_first_make(state: &AllocState, request: &Request) -> bool
 }
 
 /// Asks the allocation the step, where it may be asked that next.
-fn ask(state: &mut AllocState, step: Step) -> Result<bool, NoMemory> {
+fn ask_step(state: &mut AllocState, step: Step) -> Result<bool, NoMemory> {
     let (stamp, site, ask) = step;
     let request = request_of(ask);
     if !is_later(state.entries(), stamp)
@@ -282,9 +296,10 @@ fn explains_each_first_violation(rt: HostRuntime) -> Result<(), Fail> {
     for (number, steps, wanted) in CASES {
         let mut state = AllocState::unmade(alloc, AllocNo(*number));
         for step in *steps {
-            assert!(rt; ask(&mut state, *step)?);
+            assert!(rt; ask_step(&mut state, *step)?);
         }
-        let kept = record(alloc, AllocNo(*number), state.into_entries())?;
+        let number = state.number();
+        let kept = record(alloc, number, state.into_entries())?;
         let list = explain(alloc, &kept)?;
         let text = explain_text(alloc, &kept, list.as_slice())?;
         assert_eq!(rt; text.as_slice(), wanted.as_bytes(), "{wanted}");
