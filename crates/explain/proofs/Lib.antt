@@ -7,3 +7,4 @@ pub mod Changing
 pub mod Explaining
 pub mod Listing
 pub mod Writing
+pub mod Samples
