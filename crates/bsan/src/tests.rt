@@ -18,8 +18,8 @@ const REPORT: &str =
     "thread 0 returned 0\nsteps 0, allocations 0, threads 1, violations 0\nstatus 0\n";
 
 const USAGE: &str =
-    "usage: bsan check FILE | instrument FILE | solo FILE | replay FILE SCHEDULE | run FILE | races FILE SCHEDULE\n\
-    options of solo, replay, run and races: --input FILE --steps N --turns N --allocs N\n";
+    "usage: bsan check FILE | instrument FILE | solo FILE | replay FILE SCHEDULE | run FILE | races FILE SCHEDULE | explain FILE SCHEDULE\n\
+    options of solo, replay, run, races and explain: --input FILE --steps N --turns N --allocs N\n";
 
 /// Files of one call: the program's, which is `p`, and the input's, which is `q`, with the reads that fail.
 #[derive(Clone, Copy)]
