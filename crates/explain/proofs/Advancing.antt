@@ -1,12 +1,11 @@
 -- One step of an allocation before its first violation: what it leaves is told by the entry alone.
-use Rattle.std.proofs.Common.{◌≡◌, ℕ, zero, suc, ◌+◌, ◌≤◌, ◌==◌, ◌&&◌, ◌||◌, nat_le, not, is_some, Bool, true, false, cond, if◌then◌else◌, IsTrue, Option, Some, None, MatchOption, List, [], ◌∷◌, ◌++◌, length, map, take, All, slice_get, get_or, ◌<◌, refl, sym, ap, subst, ◌∙◌, arith, length-append, length-take, length-take-le, length-drop}
-use Rattle.std.specs.Option.{option_map, option_map_or}
+use Rattle.std.proofs.Common.{◌≡◌, ℕ, zero, suc, ◌+◌, ◌≤◌, ◌==◌, ◌&&◌, ◌||◌, nat_le, not, is_some, Bool, true, false, if◌then◌else◌, IsTrue, Option, Some, None, MatchOption, List, [], ◌∷◌, ◌++◌, length, map, take, All, slice_get, get_or, ◌<◌, refl, sym, ap, subst, ◌∙◌, arith, length-append, length-take, length-take-le, length-drop}
+use Rattle.std.specs.Option.{option_map}
 use Rattle.std.proofs.lemmas.Bool.{ltb-false}
 use Rattle.std.proofs.lemmas.Bool.Decides.{nat_tests}
 use Rattle.std.proofs.lemmas.List.{length-replicate, length-map}
 use Rattle.std.proofs.lemmas.List.Elements.{All-map, All-cons, All-nil}
 use Rattle.bsan_ids.specs.declared.numbers.Tag.{Tag}
-use Rattle.bsan_ids.specs.declared.numbers.Stamp.{Stamp}
 use Rattle.bsan_ids.specs.declared.numbers.Span.{Span}
 use Rattle.bsan_ids.specs.declared.numbers.Prov.{Prov}
 use Rattle.perm_table.specs.declared.Kind.{Kind}
@@ -23,11 +22,11 @@ use Rattle.ir_ast.specs.declared.types.Width.TheVariants.{W8, W16, W32, W64}
 use Rattle.ir_ast.specs.Words.{width_bytes, ty_bytes, bytes_of}
 use Rattle.eager_tree.specs.declared.node.Node.{Node}
 use Rattle.eager_tree.specs.declared.violation.Violation.{Violation}
-use Rattle.eager_tree.specs.declared.violation.Violation.TheVariants.{Stranger, Freed as WasFreed, OutOfRange}
+use Rattle.eager_tree.specs.declared.violation.Violation.TheVariants.{Freed as WasFreed, OutOfRange}
 use Rattle.eager_tree.specs.declared.sweep.Sweep.TheVariants.{Access as AccessSweep}
 use Rattle.eager_tree.specs.Tree.{Tree, IsTree, has_tag, is_node, new_tree, links}
 use Rattle.eager_tree.specs.Visit.{visit, visit_unless, first_denial, next_nodes}
-use Rattle.eager_tree.specs.Steps.{access, retag, end_protector, free_all, with_node, new_node, unguarded, freed_guard, freed_unless, strong_free, on_span, implicit_kinds, is_no_descendant}
+use Rattle.eager_tree.specs.Steps.{access, retag, end_protector, with_node, new_node, unguarded, freed_guard, freed_unless, strong_free, on_span, implicit_kinds, is_no_descendant}
 use Rattle.eager_tree.proofs.Trees.{IsTree-linked, IsTree-visited, links-freed, length-new_cells, grown}
 use Rattle.history.specs.declared.trap.Trap.{Trap}
 use Rattle.history.specs.declared.trap.Trap.TheVariants.{OutOfBounds, Freed, BadFree}
@@ -35,7 +34,7 @@ use Rattle.history.specs.declared.entry.Entry.{Entry}
 use Rattle.history.specs.declared.entry.Reply.{Reply}
 use Rattle.history.specs.declared.entry.Request.{Request}
 use Rattle.history.specs.declared.entry.Request.TheVariants.{Make, Load, Store, Modify, CmpXchg, CopyOut, CopyIn, Retag, EndProtector, Free, Print, Host, Spawn, Join}
-use Rattle.history.specs.declared.entry.Verdict.TheVariants.{Clean, Closed, Violated}
+use Rattle.history.specs.declared.entry.Verdict.TheVariants.{Clean, Closed}
 use Rattle.history.specs.Memory.{Memory, put, span_of, is_outside, trap_in, next_memory, with_word, word_at}
 use Rattle.history.specs.Pieces.{Byte}
 use Rattle.history.specs.Fragments.{next_shadow}

@@ -1,8 +1,7 @@
 -- The entries to which a violation leads are among those before it.
-use Rattle.std.proofs.Common.{◌≡◌, ◌⊎◌, ℕ, zero, suc, ◌+◌, ◌<◌, ◌≤◌, ◌==◌, ◌&&◌, ◌||◌, not, Bool, true, false, cond, if◌then◌else◌, IsTrue, Option, Some, None, is_some, MatchOption, List, [], ◌∷◌, ◌++◌, length, map, take, drop, All, get_or, length-take, length-take-le, refl, sym, ap, subst, ◌∙◌, arith, inl, inr}
+use Rattle.std.proofs.Common.{◌≡◌, ◌⊎◌, ℕ, zero, suc, ◌+◌, ◌<◌, ◌≤◌, ◌==◌, ◌&&◌, ◌||◌, not, Bool, true, false, cond, Option, Some, None, is_some, MatchOption, List, [], ◌∷◌, length, take, All, get_or, length-take-le, refl, sym, ap, subst, ◌∙◌, arith, inl, inr}
 use Rattle.std.specs.Option.{option_map}
 use Rattle.std.specs.Prelude.{Contains, find}
-use Rattle.std.specs.List.{list_any}
 use Rattle.std.proofs.lemmas.Bool.Decides.{nat_tests}
 use Rattle.std.proofs.lemmas.List.{get_or-take}
 use Rattle.std.proofs.lemmas.List.Elements.{All-map, All-append, All-cons, All-nil}
@@ -12,7 +11,7 @@ use Rattle.perm_table.specs.declared.Kind.{Kind}
 use Rattle.perm_table.specs.declared.Kind.TheVariants.{Read, Write}
 use Rattle.eager_tree.specs.declared.node.Node.{Node}
 use Rattle.eager_tree.specs.declared.violation.Violation.{Violation}
-use Rattle.eager_tree.specs.Tree.{Tree, Links, links, new_tree}
+use Rattle.eager_tree.specs.Tree.{Tree, Links, links}
 use Rattle.eager_tree.specs.Visit.{visit_unless, first_denial, next_nodes, next_by}
 use Rattle.eager_tree.specs.Steps.{access, with_node, new_node, unguarded, freed_guard, freed_unless, strong_free, implicit_kinds, is_no_descendant, on_span}
 use Rattle.eager_tree.proofs.Nodes.{links-next_by}
@@ -23,12 +22,11 @@ use Rattle.history.specs.declared.entry.Request.{Request}
 use Rattle.history.specs.declared.entry.Request.TheVariants.{Make}
 use Rattle.history.specs.Histories.{is_make_step, is_make}
 use Rattle.history.specs.Merge.{stamp_of}
-use Rattle.history.specs.Objects.{Object, Made, unmade}
+use Rattle.history.specs.Objects.{Made}
 use Rattle.lazy_access.specs.declared.request.TreeRequest.{TreeRequest}
 use Rattle.lazy_access.specs.declared.request.TreeRequest.TheVariants.{Access as AskAccess, Retag as AskRetag, EndProtector as AskEnd, FreeAll as AskFree}
 use Rattle.alloc_state.specs.Asking.{told}
 use Rattle.alloc_state.specs.Log.{has_make}
-use Rattle.alloc_state.specs.Prepared.{is_made_in}
 use Rattle.alloc_state.proofs.Makes.{made_where_make}
 use Rattle.explain.specs.Explanations.{IsFreer, IsMaker, IsMaking, IsTold, is_free}
 use Rattle.explain.specs.Replays.{Grown, advanced_by, asked, frees, grown_in, grown_of, is_done, tag_of, tree_told}

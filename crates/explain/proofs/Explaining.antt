@@ -1,19 +1,17 @@
 -- A violation of a log is explained by what the searches of the code find before it.
-use Rattle.std.proofs.Common.{◌≡◌, ℕ, ◌+◌, ◌<◌, ◌≤◌, ◌==◌, Bool, false, Option, Some, None, MatchOption, Result, Ok, Err, IfOk, List, ◌∷◌, ◌++◌, length, take, drop, All, get_or, refl, sym, ap, subst, ◌∙◌, arith}
+use Rattle.std.proofs.Common.{◌≡◌, ℕ, ◌+◌, ◌<◌, ◌==◌, false, Option, Some, None, MatchOption, Result, Ok, Err, IfOk, ◌∷◌, ◌++◌, length, take, drop, All, get_or, refl, sym, ap, subst, ◌∙◌, arith}
 use Rattle.std.specs.Prelude.{find}
 use Rattle.std.specs.Option.{option_and_then}
 use Rattle.bsan_ids.specs.declared.numbers.Tag.{Tag}
 use Rattle.perm_table.specs.declared.Perm.{Perm}
-use Rattle.eager_tree.specs.Tree.{Tree}
 use Rattle.eager_tree.specs.declared.violation.Violation.{Violation}
 use Rattle.eager_tree.specs.declared.violation.Violation.TheVariants.{Stranger, Freed, OutOfRange}
 use Rattle.history.specs.declared.entry.Entry.{Entry}
 use Rattle.history.specs.declared.entry.Reply.{Reply}
 use Rattle.history.specs.declared.entry.Verdict.{Verdict}
-use Rattle.history.specs.declared.entry.Verdict.TheVariants.{Clean, Closed, Violated}
+use Rattle.history.specs.declared.entry.Verdict.TheVariants.{Violated}
 use Rattle.history.specs.declared.log.AllocLog.{AllocLog}
 use Rattle.history.specs.Histories.{IsHistory, is_make_step}
-use Rattle.history.specs.Merge.{stamp_of}
 use Rattle.history.specs.Objects.{Made, unmade}
 use Rattle.history.specs.Records.{violates}
 use Rattle.explain.specs.declared.explained.Explained.{Explained}
@@ -23,7 +21,7 @@ use Rattle.explain.specs.Searches.{IsFoundFor, perm_at}
 use Rattle.explain.proofs.Advancing.{StandsOpen}
 use Rattle.explain.proofs.Stepping.{IsQuiet, object_at, opens_at, reply_at}
 use Rattle.explain.proofs.Telling.{IsIn, Tells, tells, named_node, named_perm}
-use Rattle.explain.proofs.Causing.{IsStamp, HasFreed, TagsIn, tags_at, maker_told, freer_told, freed_told, making_told}
+use Rattle.explain.proofs.Causing.{IsStamp, TagsIn, tags_at, maker_told, freer_told, freed_told, making_told}
 use Rattle.explain.proofs.Changing.{split_at}
 
 pub if_ok_map : {A E : Type 0} (r : Result A E) (P Q : A → Type 0) → ((x : A) → P x → Q x) → IfOk r P → IfOk r Q

@@ -7,3 +7,6 @@ pub mod Changing
 pub mod Explaining
 pub mod Listing
 pub mod Writing
+pub mod Left
+pub mod Single
+pub mod Samples

@@ -1,7 +1,6 @@
 -- The explanations of the logs, one after the other, and in stamp order.
-use Rattle.std.proofs.Common.{◌≡◌, ℕ, zero, suc, ◌+◌, ◌<◌, ◌≤◌, ◌==◌, Bool, true, false, cond, Option, Some, None, MatchOption, List, [], ◌∷◌, ◌++◌, length, map, take, drop, All, get_or, refl, sym, ap, subst, ◌∙◌, arith, append_assoc}
+use Rattle.std.proofs.Common.{◌≡◌, ℕ, zero, suc, ◌+◌, ◌<◌, ◌≤◌, ◌==◌, Bool, true, false, cond, Option, Some, None, List, [], ◌∷◌, ◌++◌, length, map, drop, get_or, refl, sym, ap, ◌∙◌, arith, append_assoc}
 use Rattle.std.specs.Prelude.{filter, find, nat_lt, position}
-use Rattle.std.specs.Option.{option_map}
 use Rattle.std.specs.List.{filter_map, cons_option, position_or_len}
 use Rattle.std.specs.List.Sorted.{IsNonDecreasingBy, IsStableByKey, ties}
 use Rattle.std.specs.Ordering.{nat_cmp, is_lt}
@@ -13,7 +12,7 @@ use Rattle.std.proofs.lemmas.Option.{slice_get_past}
 use Rattle.history.specs.declared.entry.Entry.{Entry}
 use Rattle.history.specs.declared.log.AllocLog.{AllocLog}
 use Rattle.history.specs.Merge.{stamp_of, by_stamp}
-use Rattle.history.specs.Records.{first_violation, violates}
+use Rattle.history.specs.Records.{first_violation}
 use Rattle.history.proofs.Order.{with_stamp, unique, rises_from, by_stamp_rises, with_stamp-by_stamp}
 use Rattle.explain.specs.declared.explained.Explained.{Explained}
 use Rattle.explain.specs.Explanations.{IsExplainedBy, IsExplainedIn}

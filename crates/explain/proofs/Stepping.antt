@@ -1,16 +1,14 @@
 -- Along the first entries of a log, of which none is a violation.
-use Rattle.std.proofs.Common.{◌≡◌, ℕ, zero, suc, ◌+◌, ◌<◌, ◌≤◌, false, IsTrue, Option, Some, None, MatchOption, List, [], ◌∷◌, ◌++◌, length, map, take, All, get_or, length-take, length-take-le, refl, sym, ap, subst, ◌∙◌, arith, inl, inr, ◌⊎◌}
-use Rattle.std.specs.Option.{option_map, option_and_then}
+use Rattle.std.proofs.Common.{◌≡◌, ℕ, zero, suc, ◌+◌, ◌<◌, ◌≤◌, false, Option, Some, None, MatchOption, List, [], ◌∷◌, ◌++◌, length, map, take, All, get_or, length-take, length-take-le, refl, sym, ap, subst, ◌∙◌, arith, inl, inr, ◌⊎◌}
+use Rattle.std.specs.Option.{option_and_then}
 use Rattle.std.specs.List.Sorted.{IsStrictlyIncreasing}
 use Rattle.std.proofs.lemmas.Bool.{cases_lt}
 use Rattle.std.proofs.lemmas.List.{get_or-map, get_or-take, length-map}
-use Rattle.std.proofs.lemmas.List.Elements.{All-tail}
 use Rattle.std.proofs.lemmas.List.Kept.{AllPairs-from_increasing}
 use Rattle.bsan_ids.specs.declared.numbers.Tag.{Tag}
-use Rattle.perm_table.specs.declared.Perm.{Perm}
 use Rattle.history.specs.declared.entry.Entry.{Entry}
 use Rattle.history.specs.declared.log.AllocLog.{AllocLog}
-use Rattle.history.specs.Histories.{IsHistory, Replies, fits, replay}
+use Rattle.history.specs.Histories.{IsHistory, Replies, replay}
 use Rattle.history.specs.Merge.{stamp_of}
 use Rattle.history.specs.Objects.{Object, Made, answer, unmade}
 use Rattle.history.specs.Records.{violates}
@@ -18,7 +16,7 @@ use Rattle.alloc_state.specs.Prepared.{AreBelow}
 use Rattle.alloc_state.proofs.LongerHistory.{replay-push}
 use Rattle.alloc_state.proofs.TagsBelow.{AreBelow-replay}
 use Rattle.explain.specs.Explanations.{perm_in}
-use Rattle.explain.specs.Replays.{Grown, MayAdvance, advanced, grown_in, grown_of, perm_of}
+use Rattle.explain.specs.Replays.{MayAdvance, advanced, grown_in, grown_of, perm_of}
 use Rattle.explain.specs.Searches.{IsFound, IsLastChange, perm_at}
 use Rattle.explain.proofs.Advancing.{StandsOpen, Steps, steps}
 

@@ -1,6 +1,6 @@
 -- What a violation tells of its allocation: the node that it names is in the tree and has the state that is
 -- named, a freed allocation is freed, and one that is out of its range is made.
-use Rattle.std.proofs.Common.{◌≡◌, ◌⊎◌, ℕ, zero, suc, ◌+◌, ◌<◌, ◌==◌, ◌&&◌, ◌||◌, not, Bool, true, false, if◌then◌else◌, Option, Some, None, MatchOption, List, [], ◌∷◌, length, map, All, get_or, slice_get, refl, sym, ap, subst, ◌∙◌, arith, inl, inr}
+use Rattle.std.proofs.Common.{◌≡◌, ◌⊎◌, ℕ, zero, suc, ◌<◌, ◌==◌, ◌&&◌, ◌||◌, not, Bool, true, false, if◌then◌else◌, Option, Some, None, MatchOption, List, [], ◌∷◌, length, map, All, get_or, slice_get, refl, sym, ap, subst, ◌∙◌, arith, inl, inr}
 use Rattle.std.specs.Option.{option_and_then, option_or, option_map}
 use Rattle.std.specs.List.{AllPairs}
 use Rattle.std.specs.List.Sorted.{IsStrictlyIncreasing}
@@ -26,7 +26,6 @@ use Rattle.eager_tree.specs.Steps.{access, retag, end_protector, with_node, new_
 use Rattle.history.specs.declared.trap.Trap.{Trap}
 use Rattle.history.specs.declared.entry.Request.{Request}
 use Rattle.history.specs.declared.entry.Request.TheVariants.{Make, Load, Store, Modify, CmpXchg, CopyOut, CopyIn, Retag, EndProtector, Free, Print, Host, Spawn, Join}
-use Rattle.history.specs.declared.entry.Verdict.{Verdict}
 use Rattle.history.specs.declared.entry.Verdict.TheVariants.{Clean, Closed, Violated}
 use Rattle.history.specs.Memory.{trap_in, is_outside, span_of}
 use Rattle.history.specs.Objects.{Object, Made, Judged, answer, data_unless, judged, judged_by, judged_through, node_through, retag_judged, end_judged, step_of, step_on, through, kind_of, violated, reborrow}

@@ -1,5 +1,5 @@
 -- What the replay in code makes of an entry.
-use Rattle.std.proofs.Common.{◌≡◌, ◌&&◌, not, Bool, true, false, if◌then◌else◌, Option, Some, None, MatchOption, All, ◌<◌, ℕ, [], ◌∷◌, List, refl, sym, ap, subst, ◌∙◌}
+use Rattle.std.proofs.Common.{◌≡◌, ◌&&◌, not, Bool, true, false, if◌then◌else◌, Option, Some, None, MatchOption, ℕ, [], ◌∷◌, List, refl, sym, ap, subst, ◌∙◌}
 use Rattle.std.specs.Option.{option_map, option_eq}
 use Rattle.ir_ast.specs.declared.types.Place.{Place}
 use Rattle.bsan_ids.specs.declared.numbers.Tag.{Tag}
@@ -26,9 +26,6 @@ size_eager t = size_with t.root t.size t.nodes
 -- what is asked where the step didn't trap
 pub asked_where : (live : Bool) (t : Tree) (e : Entry) → traps e ≡ false → asked live t e ≡ asked_by live t e.request
 asked_where live t e h = ap (λ (b : Bool). if b then None else asked_by live t e.request) h
-
-pub asked_not : (live : Bool) (t : Tree) (e : Entry) → traps e ≡ true → asked live t e ≡ None
-asked_not live t e h = ap (λ (b : Bool). if b then None else asked_by live t e.request) h
 
 pub askable_where : (live : Bool) (t : Tree) (e : Entry) (request : TreeRequest) → MatchOption (asked live t e) (Unit {0}) (IsAskable t) → traps e ≡ false → asked_by live t e.request ≡ Some request → IsAskable t request
 askable_where live t e request may h is = subst (λ (o : Option TreeRequest). MatchOption o (Unit {0}) (IsAskable t)) (asked_where live t e h ∙ is) may

@@ -1,5 +1,5 @@
 -- What led to the first violation on an allocation, told by the entries of its log before it.
-use Rattle.std.specs.Prelude.{ℕ, ◌≡◌, ◌≢◌, Bool, true, false, Option, Some, None, MatchOption, List, [], ◌∷◌, ◌++◌, map, take, All, Contains}
+use Rattle.std.specs.Prelude.{ℕ, ◌≡◌, ◌≢◌, Bool, true, false, Option, None, MatchOption, List, [], ◌∷◌, ◌++◌, map, take, All, Contains}
 use Rattle.std.specs.Option.{option_map, option_and_then}
 use Rattle.bsan_ids.specs.declared.numbers.Tag.{Tag}
 use Rattle.perm_table.specs.declared.Perm.{Perm}
@@ -16,7 +16,7 @@ use Rattle.history.specs.declared.log.AllocLog.{AllocLog}
 use Rattle.history.specs.declared.record.RunRecord.{RunRecord}
 use Rattle.history.specs.Histories.{IsHistory, replay, is_make_step}
 use Rattle.history.specs.Merge.{stamp_of}
-use Rattle.history.specs.Objects.{Object, unmade}
+use Rattle.history.specs.Objects.{unmade}
 use Rattle.history.specs.Records.{violates, first_violations}
 use Rattle.explain.specs.declared.explained.Explained.{Explained}
 

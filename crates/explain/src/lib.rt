@@ -5,6 +5,7 @@
 mod causes;
 mod explained;
 mod last_change;
+mod laws;
 mod replay;
 #[cfg(test)]
 mod tests;
@@ -13,4 +14,5 @@ mod words;
 
 pub use causes::explain;
 pub use explained::Explained;
+pub use laws::{changers_are_one, violations_name_the_state_left};
 pub use text::explain_text;

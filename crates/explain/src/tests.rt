@@ -49,20 +49,25 @@ const MUT: RetagKind = RetagKind::Mut;
 
 const SHR: RetagKind = RetagKind::Shr;
 
-const fn node(alloc: u32, tag: u64) -> Option<Prov> {
-    Some(Prov {
-        alloc: AllocNo(alloc),
-        tag: Tag(tag),
-    })
-}
+const X: Option<Prov> = Some(Prov {
+    alloc: AllocNo(1),
+    tag: Tag(1),
+});
 
-const X: Option<Prov> = node(1, 1);
+const Y: Option<Prov> = Some(Prov {
+    alloc: AllocNo(1),
+    tag: Tag(2),
+});
 
-const Y: Option<Prov> = node(1, 2);
+const Z: Option<Prov> = Some(Prov {
+    alloc: AllocNo(1),
+    tag: Tag(4),
+});
 
-const Z: Option<Prov> = node(1, 4);
-
-const OTHER: Option<Prov> = node(2, 2);
+const OTHER: Option<Prov> = Some(Prov {
+    alloc: AllocNo(2),
+    tag: Tag(2),
+});
 
 /// The parent's read froze the child.
 const FROZEN: &[Step] = &[
@@ -242,7 +247,7 @@ fn is_first_make(state: &AllocState, request: &Request) -> bool
 }
 
 /// Asks the allocation the step, where it may be asked that next.
-fn ask(state: &mut AllocState, step: Step) -> Result<bool, NoMemory> {
+fn ask_step(state: &mut AllocState, step: Step) -> Result<bool, NoMemory> {
     let (stamp, site, ask) = step;
     let request = request_of(ask);
     if !is_later(state.entries(), stamp)
@@ -291,9 +296,10 @@ fn explains_each_first_violation(rt: HostRuntime) -> Result<(), Fail> {
     for (number, steps, wanted) in CASES {
         let mut state = AllocState::unmade(alloc, AllocNo(*number));
         for step in *steps {
-            assert!(rt; ask(&mut state, *step)?);
+            assert!(rt; ask_step(&mut state, *step)?);
         }
-        let kept = record(alloc, AllocNo(*number), state.into_entries())?;
+        let number = state.number();
+        let kept = record(alloc, number, state.into_entries())?;
         let list = explain(alloc, &kept)?;
         let text = explain_text(alloc, &kept, list.as_slice())?;
         assert_eq!(rt; text.as_slice(), wanted.as_bytes(), "{wanted}");

@@ -4,7 +4,6 @@ use Rattle.std.proofs.lemmas.List.Sorted.{All-permutation, IsNonDecreasingBy-fro
 use Rattle.history.specs.declared.log.AllocLog.{AllocLog}
 use Rattle.history.specs.Merge.{by_stamp}
 use Rattle.history.specs.Records.{first_violation}
-use Rattle.explain.specs.declared.explained.Explained.{Explained}
 use Rattle.explain.specs.Explanations.{IsExplainedIn}
 use Rattle.explain.proofs.Listing.{key_of, sorted_violations}
 use Rattle.explain.proofs.causes.explain.Goals as goal

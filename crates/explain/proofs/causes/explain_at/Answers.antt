@@ -1,18 +1,15 @@
-use Rattle.std.proofs.Common.{◌≡◌, None, Option, List, take, get_or, sym, ap, subst, ◌∙◌}
+use Rattle.std.proofs.Common.{◌≡◌, None, List, take, get_or, sym, ap, subst, ◌∙◌}
 use Rattle.std.specs.Prelude.{find}
 use Rattle.std.specs.Option.{option_copied}
 use Rattle.eager_tree.specs.declared.violation.Violation.{Violation}
 use Rattle.eager_tree.specs.declared.violation.Violation.TheVariants.{Denied, StrongFree, Stranger, Freed, OutOfRange}
 use Rattle.history.specs.declared.entry.Entry.{Entry}
-use Rattle.history.specs.declared.entry.Verdict.{Verdict}
 use Rattle.history.specs.declared.entry.Verdict.TheVariants.{Violated}
-use Rattle.history.specs.declared.log.AllocLog.{AllocLog}
 use Rattle.history.specs.Histories.{is_make_step}
 use Rattle.explain.specs.declared.explained.Explained.{Explained}
 use Rattle.explain.specs.Explanations.{IsExplainedBy}
 use Rattle.explain.specs.Replays.{frees}
 use Rattle.explain.specs.Searches.{IsFoundFor}
-use Rattle.explain.proofs.Stepping.{IsQuiet}
 use Rattle.explain.proofs.Explaining.{if_ok_map, quiet_before, explained_found, explained_freed, explained_range, explained_stranger}
 use Rattle.explain.proofs.causes.explain_at.Goals as goal
 

@@ -1,5 +1,4 @@
-use Rattle.std.proofs.Common.{◌≡◌, ◌+◌, not, true, false, Option, List, get_or, take, All, ℕ, sym, ap, subst, ◌∙◌, arith}
-use Rattle.perm_table.specs.declared.Perm.{Perm}
+use Rattle.std.proofs.Common.{◌≡◌, ◌+◌, Option, List, get_or, take, ℕ, sym, ap, subst, ◌∙◌, arith}
 use Rattle.history.specs.declared.entry.Entry.{Entry}
 use Rattle.explain.specs.Replays.{Grown, MayAdvance, advanced, grown_of, perm_of}
 use Rattle.explain.specs.Searches.{IsFound, IsLastChange, perm_at}
