@@ -1,6 +1,7 @@
 //! A machine's own work: local instructions, and the steps of a flat loop.
-ghost use Rattle.std.specs.Prelude.{◌≡◌, ◌<◌, length, None, IfOk, IfSome};
+ghost use Rattle.std.specs.Prelude.{◌≡◌, ◌<◌, length, None, IfOk, IfSome, IsTrue};
 ghost use Rattle.history.specs.declared.ask.Ask.TheVariants as asked;
+ghost use Rattle.thread_machine.specs.Thread.{thread_ask};
 ghost use Rattle.history.specs.declared.entry.Verdict.TheVariants.{Clean};
 ghost use Rattle.history.specs.Replies.{Answers};
 ghost use Rattle.thread_parts.specs.Fits.{ReplyFits};
@@ -121,28 +122,52 @@ fn loaded(alloc: AllocNo, request: Request) -> Option<Entry>
     }
 }
 
+/// Goes on with a clean reply to what a part of a loop asks. Answers whether it is one.
+fn reply(machine: &mut Machine<'_>, ask: Ask) -> bool
+    requires asks { thread_ask machine.old.setting machine.old.thread ≡ ask }
+    requires prepared { IsTrue machine.old.prepared }
+{
+    match ask {
+        Ask::Make { size, place } => {
+            let number = AllocNo(1);
+            let carried = Some(Prov {
+                alloc: number,
+                tag: Tag(1),
+            });
+            let request = Request::Make { size, place };
+            machine.answer(&entry(Some(number), request, Plain::Made(number), carried));
+            true
+        }
+        Ask::At { alloc, request } => match loaded(alloc, request) {
+            Some(entry) => {
+                machine.answer(&entry);
+                true
+            }
+            None => false,
+        },
+        _ => false,
+    }
+}
+
+/// Goes on with a part of a loop, where it is one. Answers whether it is.
+fn part(machine: &mut Machine<'_>) -> Result<bool, NoMemory> {
+    machine.prepare()?;
+    let ask = machine.ask()?;
+    if let Ask::Turn = ask {
+        machine.turn();
+        Ok(true)
+    } else {
+        Ok(reply(machine, ask))
+    }
+}
+
 /// Runs so many parts of a loop, with clean replies. Answers how many instructions were counted.
 pub fn run(alloc: Global, what: LoopOf, parts: u32) -> Result<u64, NoMemory> {
     let target = looping(alloc, what)?;
     let mut machine = Machine::start(alloc, &target, 0, &[], &[])?;
     for _ in 0..parts {
-        machine.prepare()?;
-        match machine.ask()? {
-            Ask::Turn => machine.turn(),
-            Ask::Make { size, place } => {
-                let number = AllocNo(1);
-                let carried = Some(Prov {
-                    alloc: number,
-                    tag: Tag(1),
-                });
-                let request = Request::Make { size, place };
-                machine.answer(&entry(Some(number), request, Plain::Made(number), carried));
-            }
-            Ask::At { alloc, request } => match loaded(alloc, request) {
-                Some(entry) => machine.answer(&entry),
-                None => return Ok(machine.instructions()),
-            },
-            _ => return Ok(machine.instructions()),
+        if !part(&mut machine)? {
+            break;
         }
     }
     Ok(machine.instructions())
