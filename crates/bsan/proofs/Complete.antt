@@ -4,7 +4,7 @@ use Rattle.std.specs.Io.KnownBytes.{Appends}
 use Rattle.std.specs.Option.{IsSomeAnd, option_and_then}
 use Rattle.outside_io.specs.Reading.{Tells, IsLongerThan}
 use Rattle.command_words.specs.Jobs.{Job, Settings, NativeRun, ScheduledRun, settings_in}
-use Rattle.command_words.specs.Jobs.Job.{Check, Instrument, Replay, Run, Races}
+use Rattle.command_words.specs.Jobs.Job.{Check, Instrument, Replay, Run, Races, Explain}
 use Rattle.core_model.specs.Kept.{Replayed}
 use Rattle.ir_ast.specs.declared.hosts.HostTable.{HostTable}
 use Rattle.ir_ast.specs.declared.program.Program.{Program}
@@ -19,6 +19,7 @@ use Rattle.target_code.specs.Texts.{target_text}
 use Rattle.target_code.specs.declared.line.Target.{Target}
 use Rattle.history.specs.declared.record.RunRecord.{RunRecord}
 use Rattle.race_check.specs.declared.race.Race.{Race}
+use Rattle.explain.specs.declared.explained.Explained.{Explained}
 use Rattle.source_sem.specs.Records.{IsRightRecord}
 use Rattle.bsan.specs.Words.{Text, file_in}
 use Rattle.bsan.specs.Seen.{FilesSeen, SinkSeen, Failed, WasTooLong, IsFault, Puts}
@@ -29,7 +30,7 @@ use Rattle.bsan.specs.Answer.{OfFile, OfText, OfProgram, OfJob, FindsIn, HasCaus
 use Rattle.bsan.specs.Causes.{IsCutShort, IsUnread, ComesBetween, IsRefused, IsBroken, TellsText, IsGiven, IsGivenInput, HasInput, IsServed, IsComplete}
 use Rattle.bsan.specs.declared.outcome.Role.TheVariants as role
 use Rattle.bsan.specs.declared.outcome.Outcome.{Outcome}
-use Rattle.bsan.specs.declared.outcome.Outcome.TheVariants.{Usage, FileFault, TooLong, NotRead, NotVerified, Accepted, Instrumented, Ran, Raced}
+use Rattle.bsan.specs.declared.outcome.Outcome.TheVariants.{Usage, FileFault, TooLong, NotRead, NotVerified, Accepted, Instrumented, Ran, Raced, Traced}
 
 same_job : (asked : Option Job) (job other : Job) → asked ≡ Some job → asked ≡ Some other → job ≡ other
 same_job asked job other is also = let same : Some job ≡ Some other = sym is ∙ also in cc
@@ -126,6 +127,7 @@ refused files hosts sink asked kept answer (inl told) tells = by_found told.foun
     by_found (Instrumented target) cause puts = absurd (unless (Instrumented target) cause)
     by_found Ran cause puts = absurd (unless Ran cause)
     by_found (Raced races) cause puts = absurd (unless (Raced races) cause)
+    by_found (Traced violations) cause puts = absurd (unless (Traced violations) cause)
 
 -- a content that is told, and a program's in which a rule is broken, is told so
 pub broken : (files : FilesSeen) (hosts : HostTable) (sink : SinkSeen) (asked : Option Job) (kept : RunRecord) (answer : ℕ)
@@ -148,6 +150,7 @@ broken files hosts sink asked kept answer (inl told) tells = by_found told.found
     of_check functions instructions (Replay run) finds = finds
     of_check functions instructions (Run run) finds = finds
     of_check functions instructions (Races run) finds = finds
+    of_check functions instructions (Explain run) finds = finds
 
     of_instrument : (target : Target) (job : Job) → FindsIn files hosts kept (Instrumented target) job tells.holds.program → ⊥
     of_instrument target (Check file) finds = finds
@@ -155,6 +158,7 @@ broken files hosts sink asked kept answer (inl told) tells = by_found told.found
     of_instrument target (Replay run) finds = finds
     of_instrument target (Run run) finds = finds
     of_instrument target (Races run) finds = finds
+    of_instrument target (Explain run) finds = finds
 
     of_ran : (job : Job) → FindsIn files hosts kept Ran job tells.holds.program → ⊥
     of_ran (Check file) finds = finds
@@ -162,6 +166,7 @@ broken files hosts sink asked kept answer (inl told) tells = by_found told.found
     of_ran (Replay run) finds = unless finds.0
     of_ran (Run run) finds = unless finds.0
     of_ran (Races run) finds = finds
+    of_ran (Explain run) finds = finds
 
     of_raced : (races : List Race) (job : Job) → FindsIn files hosts kept (Raced races) job tells.holds.program → ⊥
     of_raced races (Check file) finds = finds
@@ -169,6 +174,15 @@ broken files hosts sink asked kept answer (inl told) tells = by_found told.found
     of_raced races (Replay run) finds = finds
     of_raced races (Run run) finds = finds
     of_raced races (Races run) finds = unless finds.0
+    of_raced races (Explain run) finds = finds
+
+    of_traced : (violations : List Explained) (job : Job) → FindsIn files hosts kept (Traced violations) job tells.holds.program → ⊥
+    of_traced violations (Check file) finds = finds
+    of_traced violations (Instrument file) finds = finds
+    of_traced violations (Replay run) finds = finds
+    of_traced violations (Run run) finds = finds
+    of_traced violations (Races run) finds = finds
+    of_traced violations (Explain run) finds = unless finds.0
 
     by_found : (found : Outcome) → HasCause files hosts asked kept found → Puts sink (text_for found kept) (status_for found kept) answer
         → (answer ≡ 4) ⊎ ComesBetween files asked answer
@@ -188,6 +202,7 @@ broken files hosts sink asked kept answer (inl told) tells = by_found told.found
     by_found (Instrumented target) cause puts = absurd (of_instrument target tells.job (in_program (Instrumented target) cause))
     by_found Ran cause puts = absurd (of_ran tells.job (in_program Ran cause))
     by_found (Raced races) cause puts = absurd (of_raced races tells.job (in_program (Raced races) cause))
+    by_found (Traced violations) cause puts = absurd (of_traced violations tells.job (in_program (Traced violations) cause))
 
 -- where all is well, the job is served, or the call is out of memory
 pub complete : (files : FilesSeen) (hosts : HostTable) (sink : SinkSeen) (asked : Option Job) (kept : RunRecord) (answer : ℕ)
@@ -229,6 +244,7 @@ complete files hosts sink asked kept answer (inl told) job text input program we
     checked functions instructions (Replay run) finds puts = absurd finds
     checked functions instructions (Run run) finds puts = absurd finds
     checked functions instructions (Races run) finds puts = absurd finds
+    checked functions instructions (Explain run) finds puts = absurd finds
     checked functions instructions (Check file) finds (failed is rose prefix) = absurd (well.no_put_fault rose)
     checked functions instructions (Check file) finds (no_memory is keeps) = inr is
     checked functions instructions (Check file) finds (whole is appends) = inl (record {
@@ -242,6 +258,7 @@ complete files hosts sink asked kept answer (inl told) job text input program we
     instrumented target (Replay run) finds puts = absurd finds
     instrumented target (Run run) finds puts = absurd finds
     instrumented target (Races run) finds puts = absurd finds
+    instrumented target (Explain run) finds puts = absurd finds
     instrumented target (Instrument file) finds (failed is rose prefix) = absurd (well.no_put_fault rose)
     instrumented target (Instrument file) finds (no_memory is keeps) = inr is
     instrumented target (Instrument file) finds (whole is appends) = inl (record {
@@ -254,6 +271,7 @@ complete files hosts sink asked kept answer (inl told) job text input program we
     reported (Check file) has finds puts = absurd finds
     reported (Instrument file) has finds puts = absurd finds
     reported (Races run) has finds puts = absurd finds
+    reported (Explain run) has finds puts = absurd finds
     reported (Replay run) has finds (failed is rose prefix) = absurd (well.no_put_fault rose)
     reported (Replay run) has finds (no_memory is keeps) = inr is
     reported (Replay run) has finds (whole is appends) = inl (record { right = replayed run has finds.1; status = is; text = appends })
@@ -267,10 +285,24 @@ complete files hosts sink asked kept answer (inl told) job text input program we
     raced races (Instrument file) has finds puts = absurd finds
     raced races (Replay run) has finds puts = absurd finds
     raced races (Run run) has finds puts = absurd finds
+    raced races (Explain run) has finds puts = absurd finds
     raced races (Races run) has finds (failed is rose prefix) = absurd (well.no_put_fault rose)
     raced races (Races run) has finds (no_memory is keeps) = inr is
     raced races (Races run) has finds (whole is appends) =
         inl (record { right = replayed run has finds.1; races = races; first = finds.2; status = is; text = appends })
+
+    traced : (violations : List Explained) (job : Job) → HasInput files input job → FindsIn files hosts kept (Traced violations) job program
+        → Puts sink (text_for (Traced violations) kept) (status_for (Traced violations) kept) answer
+        → IsServed hosts sink kept program input answer job ⊎ (answer ≡ 9)
+    traced violations (Check file) has finds puts = absurd finds
+    traced violations (Instrument file) has finds puts = absurd finds
+    traced violations (Replay run) has finds puts = absurd finds
+    traced violations (Run run) has finds puts = absurd finds
+    traced violations (Races run) has finds puts = absurd finds
+    traced violations (Explain run) has finds (failed is rose prefix) = absurd (well.no_put_fault rose)
+    traced violations (Explain run) has finds (no_memory is keeps) = inr is
+    traced violations (Explain run) has finds (whole is appends) =
+        inl (record { right = replayed run has finds.1; violations = violations; explained = finds.2; status = is; text = appends })
 
     by_found : (found : Outcome) → HasCause files hosts asked kept found → Puts sink (text_for found kept) (status_for found kept) answer
         → IsServed hosts sink kept program input answer job ⊎ (answer ≡ 9)
@@ -290,3 +322,4 @@ complete files hosts sink asked kept answer (inl told) job text input program we
     by_found (Instrumented target) cause puts = instrumented target job (in_program (Instrumented target) cause) puts
     by_found Ran cause puts = reported job well.has_input (in_program Ran cause) puts
     by_found (Raced races) cause puts = raced races job well.has_input (in_program (Raced races) cause) puts
+    by_found (Traced violations) cause puts = traced violations job well.has_input (in_program (Traced violations) cause) puts

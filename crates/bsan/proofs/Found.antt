@@ -3,7 +3,7 @@ use Rattle.std.proofs.Common.{◌≡◌, ◌≢◌, ◌≤◌, List, ℕ, Option
 use Rattle.std.specs.Option.{option_map, IsSomeAnd}
 use Rattle.bsan_ids.specs.declared.numbers.NoMemory.{NoMemory}
 use Rattle.command_words.specs.Jobs.{Job, NativeRun, ScheduledRun, native_in, on_one_thread}
-use Rattle.command_words.specs.Jobs.Job.{Check, Instrument, Replay, Run, Races}
+use Rattle.command_words.specs.Jobs.Job.{Check, Instrument, Replay, Run, Races, Explain}
 use Rattle.command_words.specs.Meaning.{native_meant}
 use Rattle.command_words.specs.declared.jobs.NativeRun.{NativeRun as RustRun}
 use Rattle.ir_ast.specs.declared.hosts.HostTable.{HostTable}
@@ -23,7 +23,7 @@ use Rattle.bsan.specs.Runs.{IsInput, IsScheduledRun, IsNativeRun}
 use Rattle.bsan.specs.Answer.{OfJob, FindsIn, HasCause, IsAskedRun, IsNoProgram, IsLoaded, IsUnloaded}
 use Rattle.bsan.specs.declared.outcome.Role.TheVariants as role
 use Rattle.bsan.specs.declared.outcome.Outcome.{Outcome}
-use Rattle.bsan.specs.declared.outcome.Outcome.TheVariants.{Usage, FileFault, TooLong, NotRead, NotVerified, Accepted, Instrumented, Ran, Raced}
+use Rattle.bsan.specs.declared.outcome.Outcome.TheVariants.{Usage, FileFault, TooLong, NotRead, NotVerified, Accepted, Instrumented, Ran, Raced, Traced}
 
 -- a refusal that is not for memory
 refuses : (text : List ℕ) (f : ReadFault) → f ≢ read_fault.NoMemory → IsRefusal text f → Refuses text f
@@ -59,6 +59,7 @@ unloaded files hosts asked kept job (Accepted functions instructions) is empty o
 unloaded files hosts asked kept job (Instrumented target) is empty of = absurd of.2
 unloaded files hosts asked kept job Ran is empty of = absurd of.2
 unloaded files hosts asked kept job (Raced races) is empty of = absurd of.2
+unloaded files hosts asked kept job (Traced violations) is empty of = absurd of.2
 
 -- ---- a part of a call that begins later sees no more faults than the call
 pub record IsLaterPart (part whole : FilesSeen) : Type 0 where
@@ -129,21 +130,32 @@ later_finds part whole hosts kept (Accepted functions instructions) (Instrument 
 later_finds part whole hosts kept (Accepted functions instructions) (Replay run) program later finds = absurd finds
 later_finds part whole hosts kept (Accepted functions instructions) (Run run) program later finds = absurd finds
 later_finds part whole hosts kept (Accepted functions instructions) (Races run) program later finds = absurd finds
+later_finds part whole hosts kept (Accepted functions instructions) (Explain run) program later finds = absurd finds
 later_finds part whole hosts kept (Instrumented target) (Check file) program later finds = absurd finds
 later_finds part whole hosts kept (Instrumented target) (Instrument file) program later finds = finds
 later_finds part whole hosts kept (Instrumented target) (Replay run) program later finds = absurd finds
 later_finds part whole hosts kept (Instrumented target) (Run run) program later finds = absurd finds
 later_finds part whole hosts kept (Instrumented target) (Races run) program later finds = absurd finds
+later_finds part whole hosts kept (Instrumented target) (Explain run) program later finds = absurd finds
 later_finds part whole hosts kept Ran (Check file) program later finds = absurd finds
 later_finds part whole hosts kept Ran (Instrument file) program later finds = absurd finds
 later_finds part whole hosts kept Ran (Replay run) program later finds = (finds.0, later_scheduled part whole hosts kept program run later finds.1)
 later_finds part whole hosts kept Ran (Run run) program later finds = (finds.0, later_native part whole hosts kept program run later finds.1)
 later_finds part whole hosts kept Ran (Races run) program later finds = absurd finds
+later_finds part whole hosts kept Ran (Explain run) program later finds = absurd finds
 later_finds part whole hosts kept (Raced races) (Check file) program later finds = absurd finds
 later_finds part whole hosts kept (Raced races) (Instrument file) program later finds = absurd finds
 later_finds part whole hosts kept (Raced races) (Replay run) program later finds = absurd finds
 later_finds part whole hosts kept (Raced races) (Run run) program later finds = absurd finds
 later_finds part whole hosts kept (Raced races) (Races run) program later finds =
+    (finds.0, later_scheduled part whole hosts kept program run later finds.1, finds.2)
+later_finds part whole hosts kept (Raced races) (Explain run) program later finds = absurd finds
+later_finds part whole hosts kept (Traced violations) (Check file) program later finds = absurd finds
+later_finds part whole hosts kept (Traced violations) (Instrument file) program later finds = absurd finds
+later_finds part whole hosts kept (Traced violations) (Replay run) program later finds = absurd finds
+later_finds part whole hosts kept (Traced violations) (Run run) program later finds = absurd finds
+later_finds part whole hosts kept (Traced violations) (Races run) program later finds = absurd finds
+later_finds part whole hosts kept (Traced violations) (Explain run) program later finds =
     (finds.0, later_scheduled part whole hosts kept program run later finds.1, finds.2)
 
 found_in_text : (files : FilesSeen) (hosts : HostTable) (asked : Option Job) (kept : RunRecord) (found : Outcome) (job : Job) (program : Program) → OfJob files hosts asked kept found
@@ -159,6 +171,7 @@ found_in_text files hosts asked kept (Accepted functions instructions) job progr
 found_in_text files hosts asked kept (Instrumented target) job program of finds = of
 found_in_text files hosts asked kept Ran job program of finds = of
 found_in_text files hosts asked kept (Raced races) job program of finds = of
+found_in_text files hosts asked kept (Traced violations) job program of finds = of
 
 -- what the rest of a call finds in the program that was loaded is a cause
 pub served : (first part whole : FilesSeen) (hosts : HostTable) (asked : Option Job) (kept : RunRecord) (result : Result Outcome NoMemory) (job : Job) (verified : Verified)
@@ -198,6 +211,7 @@ native_job (Check file) run is = absurd cc
 native_job (Instrument file) run is = absurd cc
 native_job (Replay r) run is = absurd cc
 native_job (Races r) run is = absurd cc
+native_job (Explain r) run is = absurd cc
 native_job (Run r) run is = let same : r ≡ run = cc in ap Run same
 
 pub asked_run : (asked : Option Job) (job : Job) (run : Option RustRun) → asked ≡ Some job → HasLimits job → option_map native_meant run ≡ native_in job

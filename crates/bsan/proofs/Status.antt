@@ -20,7 +20,7 @@ use Rattle.bsan.specs.Causes.{IsCutShort, IsRefused, IsBrokenFirst, IsUnread, Ha
 use Rattle.bsan.proofs.Reportable.{left}
 use Rattle.bsan.specs.declared.outcome.Role.TheVariants as role
 use Rattle.bsan.specs.declared.outcome.Outcome.{Outcome}
-use Rattle.bsan.specs.declared.outcome.Outcome.TheVariants.{Usage, FileFault, TooLong, NotRead, NotVerified, Accepted, Instrumented, Ran, Raced}
+use Rattle.bsan.specs.declared.outcome.Outcome.TheVariants.{Usage, FileFault, TooLong, NotRead, NotVerified, Accepted, Instrumented, Ran, Raced, Traced}
 
 -- ---- the status of a record, by the ends of its threads and by its violations
 abbrev ranked : Bool → Bool → Bool → Bool → ℕ
@@ -106,6 +106,7 @@ told_as (NotVerified rule at) kept n tells is = absurd tells
 told_as (Accepted functions instructions) kept n tells is = absurd tells
 told_as (Instrumented target) kept n tells is = absurd tells
 told_as Ran kept n tells is = inl is
+told_as (Traced violations) kept n tells is = inl is
 told_as (Raced races) kept n tells is = elim (raced_as n (status_of kept) (length races) is) [ inl own ↦ inl own | inr ten ↦ inr ten.ten ]
 
 -- the run's own, where it is not 10
@@ -153,6 +154,7 @@ unread files hosts sink asked kept answer (inl told) is =
     by_found (Instrumented target) cause e = absurd (omega (arith, e))
     by_found Ran cause e = absurd (not_told Ran kept 3 tt e (λ ten. omega (arith, ten)) refl)
     by_found (Raced races) cause e = absurd (not_told (Raced races) kept 3 tt e (λ ten. omega (arith, ten)) refl)
+    by_found (Traced violations) cause e = absurd (not_told (Traced violations) kept 3 tt e (λ ten. omega (arith, ten)) refl)
 
 -- 4: a rule is broken in the program
 pub unverified : (files : FilesSeen) (hosts : HostTable) (sink : SinkSeen) (asked : Option Job) (kept : RunRecord) (answer : ℕ)
@@ -178,6 +180,7 @@ unverified files hosts sink asked kept answer (inl told) is =
     by_found (Instrumented target) cause e = absurd (omega (arith, e))
     by_found Ran cause e = absurd (not_told Ran kept 4 tt e (λ ten. omega (arith, ten)) refl)
     by_found (Raced races) cause e = absurd (not_told (Raced races) kept 4 tt e (λ ten. omega (arith, ten)) refl)
+    by_found (Traced violations) cause e = absurd (not_told (Traced violations) kept 4 tt e (λ ten. omega (arith, ten)) refl)
 
 -- what holds of an input's file, where another holds
 of_input : (P Q : Text → Type 0) (file : Option Text) → ((name : Text) → P name → Q name) → IsSomeAnd file P → IsSomeAnd file Q
@@ -218,6 +221,7 @@ read_cause files hosts sink asked kept answer (inl told) is =
     by_found (Instrumented target) cause e = absurd (omega (arith, e))
     by_found Ran cause e = absurd (not_told Ran kept 7 tt e (λ ten. omega (arith, ten)) refl)
     by_found (Raced races) cause e = absurd (not_told (Raced races) kept 7 tt e (λ ten. omega (arith, ten)) refl)
+    by_found (Traced violations) cause e = absurd (not_told (Traced violations) kept 7 tt e (λ ten. omega (arith, ten)) refl)
 
 -- 2, 3, 4 and 7: no record is left
 pub no_record : (files : FilesSeen) (hosts : HostTable) (sink : SinkSeen) (asked : Option Job) (kept : RunRecord) (answer : ℕ)
@@ -244,6 +248,7 @@ no_record files hosts sink asked kept answer (inl told) is = by_status is
     by_found n (Instrumented target) cause e low other unlike = absurd (low e)
     by_found n Ran cause e low other unlike = absurd (not_told Ran kept n tt e other unlike)
     by_found n (Raced races) cause e low other unlike = absurd (not_told (Raced races) kept n tt e other unlike)
+    by_found n (Traced violations) cause e low other unlike = absurd (not_told (Traced violations) kept n tt e other unlike)
 
     at : (n : ℕ) → answer ≡ n → n < 8 → n ≢ 0 → is_run_status n ≡ false → kept ≡ empty_record
     at n e small some unlike =
@@ -294,6 +299,7 @@ run_with files hosts sink asked kept answer n holds (inl told) is small some run
     by_found (Instrumented target) cause e text = absurd (some e)
     by_found Ran cause e text = a_run Ran tt cause e text
     by_found (Raced races) cause e text = a_run (Raced races) tt cause e text
+    by_found (Traced violations) cause e text = a_run (Traced violations) tt cause e text
 
 -- 0: a run without violations, or a program that was accepted, or its target code
 clean : (files : FilesSeen) (hosts : HostTable) (sink : SinkSeen) (asked : Option Job) (kept : RunRecord) (answer : ℕ)
@@ -327,6 +333,7 @@ clean files hosts sink asked kept answer (inl told) is =
     by_found (Instrumented target) cause e text = inr (inr (record { target = target; cause = cause; text = text }))
     by_found Ran cause e text = inl (a_run Ran tt cause e text)
     by_found (Raced races) cause e text = inl (a_run (Raced races) tt cause e text)
+    by_found (Traced violations) cause e text = inl (a_run (Traced violations) tt cause e text)
 
 -- 10: a run with data races
 raced : (files : FilesSeen) (hosts : HostTable) (sink : SinkSeen) (asked : Option Job) (kept : RunRecord) (answer : ℕ)
@@ -365,6 +372,7 @@ raced files hosts sink asked kept answer (inl told) is =
     by_found (Instrumented target) cause e text = absurd (omega (arith, e))
     by_found Ran cause e text = absurd (not_own e)
     by_found (Raced races) cause e text = with_races races cause (raced_as 10 (status_of kept) (length races) e) text
+    by_found (Traced violations) cause e text = absurd (not_own e)
 
 -- 0, 1, 5, 6 and 10: a run of which the whole text was put; 0 also: a program was accepted, or its target code made
 pub run_cause : (files : FilesSeen) (hosts : HostTable) (sink : SinkSeen) (asked : Option Job) (kept : RunRecord) (answer : ℕ)
@@ -405,6 +413,7 @@ memory_cause files hosts sink asked kept answer (inl told) is = by_puts told.put
     by_found (Instrumented target) cause e text = absurd (omega (arith, e, is))
     by_found Ran cause e text = a_run Ran tt cause e text
     by_found (Raced races) cause e text = a_run (Raced races) tt cause e text
+    by_found (Traced violations) cause e text = a_run (Traced violations) tt cause e text
 
     by_puts : Puts sink (text_for told.found kept) (status_for told.found kept) answer
         → PutNothing files hosts sink asked kept ⊎ RanWith files hosts sink asked kept answer (any_end is_no_memory kept)

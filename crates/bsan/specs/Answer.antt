@@ -3,7 +3,7 @@ use Rattle.std.specs.Prelude.{◌≡◌, ◌⊎◌, ℕ, List, length, Option, S
 use Rattle.std.specs.List.{sum_by}
 use Rattle.std.specs.Io.KnownBytes.{Keeps}
 use Rattle.command_words.specs.Jobs.{Job, on_one_thread}
-use Rattle.command_words.specs.Jobs.Job.{Check, Instrument, Replay, Run, Races}
+use Rattle.command_words.specs.Jobs.Job.{Check, Instrument, Replay, Run, Races, Explain}
 use Rattle.command_words.specs.Meaning.{native_meant}
 use Rattle.command_words.specs.declared.jobs.NativeRun.{NativeRun as RustRun}
 use Rattle.ir_ast.specs.Programs.{function_instructions}
@@ -25,13 +25,15 @@ use Rattle.history.specs.declared.record.RunRecord.{RunRecord}
 use Rattle.report.specs.Report.{text_of, status_of, IsReportable}
 use Rattle.race_check.specs.Races.{AreFirstRaces}
 use Rattle.race_check.specs.Text.{race_text, race_status}
+use Rattle.explain.specs.Explanations.{AreExplained, AreHistories}
+use Rattle.explain.specs.Text.{explain_text}
 use Rattle.bsan.specs.Words.{Text, file_in, input_in, HasLimits}
 use Rattle.bsan.specs.Seen.{FilesSeen, SinkSeen, Failed, WasTooLong, WasRead, Puts}
 use Rattle.bsan.specs.Lines.{usage_text, file_fault_line, too_long_line, fault_line, rule_line, accepted_line}
 use Rattle.bsan.specs.Runs.{IsScheduledRun, IsNativeRun, IsOfRun}
 use Rattle.bsan.specs.declared.outcome.Role.TheVariants as role
 use Rattle.bsan.specs.declared.outcome.Outcome.{Outcome}
-use Rattle.bsan.specs.declared.outcome.Outcome.TheVariants.{Usage, FileFault, TooLong, NotRead, NotVerified, Accepted, Instrumented, Ran, Raced}
+use Rattle.bsan.specs.declared.outcome.Outcome.TheVariants.{Usage, FileFault, TooLong, NotRead, NotVerified, Accepted, Instrumented, Ran, Raced, Traced}
 
 -- what was found is what the verifier told
 abbrev pub IsBrokenRule : VerifyFault → Outcome → Type 0
@@ -49,6 +51,11 @@ abbrev pub IsRaced : RunRecord → Outcome → Type 0
 IsRaced kept (Raced races) = AreFirstRaces (merged kept) races
 IsRaced kept found = ⊥
 
+-- what was found is what led to its first violations
+abbrev pub IsTraced : RunRecord → Outcome → Type 0
+IsTraced kept (Traced violations) = AreExplained kept violations
+IsTraced kept found = ⊥
+
 -- the status of what the work found
 abbrev pub status_for : Outcome → RunRecord → ℕ
 status_for Usage kept = 2
@@ -60,6 +67,7 @@ status_for (Accepted functions instructions) kept = 0
 status_for (Instrumented target) kept = 0
 status_for Ran kept = status_of kept
 status_for (Raced races) kept = race_status kept races
+status_for (Traced violations) kept = status_of kept
 
 -- its text
 abbrev pub text_for : Outcome → RunRecord → List ℕ
@@ -72,11 +80,13 @@ text_for (Accepted functions instructions) kept = accepted_line functions instru
 text_for (Instrumented target) kept = target_text target
 text_for Ran kept = text_of kept
 text_for (Raced races) kept = race_text kept races
+text_for (Traced violations) kept = explain_text kept violations
 
 -- its text can be made
 abbrev pub CanBeTold : Outcome → RunRecord → Type 0
 CanBeTold Ran kept = IsReportable kept
 CanBeTold (Raced races) kept = HasDistinctStamps kept × AreFirstRaces (merged kept) races
+CanBeTold (Traced violations) kept = AreHistories kept.allocs × HasDistinctStamps kept × AreExplained kept violations
 CanBeTold found kept = Unit {0}
 
 -- a job is asked for, and P holds of its file
@@ -142,6 +152,8 @@ FindsIn files hosts kept Ran (Replay run) program = IsAccepted program hosts × 
 FindsIn files hosts kept Ran (Run run) program = IsAccepted program hosts × IsNativeRun files hosts kept program run
 FindsIn files hosts kept (Raced races) (Races run) program =
     IsAccepted program hosts × IsScheduledRun files hosts kept program run × AreFirstRaces (merged kept) races
+FindsIn files hosts kept (Traced violations) (Explain run) program =
+    IsAccepted program hosts × IsScheduledRun files hosts kept program run × AreExplained kept violations
 FindsIn files hosts kept found job program = ⊥
 
 -- the text that was read is a program's, in which the job finds this

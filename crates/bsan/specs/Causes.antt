@@ -4,7 +4,7 @@ use Rattle.std.specs.List.{list_any, sum_by}
 use Rattle.std.specs.Io.KnownBytes.{Appends, Keeps}
 use Rattle.outside_io.specs.Counts.{Rose}
 use Rattle.command_words.specs.Jobs.{Job, NativeRun, ScheduledRun, settings_in}
-use Rattle.command_words.specs.Jobs.Job.{Check, Instrument, Replay, Run, Races}
+use Rattle.command_words.specs.Jobs.Job.{Check, Instrument, Replay, Run, Races, Explain}
 use Rattle.core_model.specs.Kept.{Replayed}
 use Rattle.ir_ast.specs.Programs.{function_instructions}
 use Rattle.ir_ast.specs.declared.hosts.HostTable.{HostTable}
@@ -24,13 +24,16 @@ use Rattle.report.specs.Report.{text_of, status_of, any_end, is_no_memory, is_tr
 use Rattle.race_check.specs.Races.{AreFirstRaces}
 use Rattle.race_check.specs.Text.{race_text, race_status}
 use Rattle.race_check.specs.declared.race.Race.{Race}
+use Rattle.explain.specs.Explanations.{AreExplained}
+use Rattle.explain.specs.Text.{explain_text}
+use Rattle.explain.specs.declared.explained.Explained.{Explained}
 use Rattle.source_sem.specs.Records.{IsRightRecord}
 use Rattle.bsan.specs.Words.{Text, file_in, input_in}
 use Rattle.bsan.specs.Seen.{FilesSeen, SinkSeen, Failed, IsFault}
 use Rattle.bsan.specs.Lines.{accepted_line}
 use Rattle.bsan.specs.Answer.{OfFile, OfText, OfProgram, OfJob, IsEmptyOrRight, text_for, status_for}
 use Rattle.bsan.specs.declared.outcome.Outcome.{Outcome}
-use Rattle.bsan.specs.declared.outcome.Outcome.TheVariants.{Accepted, Instrumented, Ran, Raced}
+use Rattle.bsan.specs.declared.outcome.Outcome.TheVariants.{Accepted, Instrumented, Ran, Raced, Traced}
 
 -- the text was not put whole, or memory ran out
 abbrev pub IsCutShort : ℕ → Type 0
@@ -92,10 +95,11 @@ ReadCause files hosts asked answer = answer ≡ 7
 abbrev pub PutCause : SinkSeen → ℕ → Type 0
 PutCause sink answer = answer ≡ 8 → Rose sink.faults_before sink.faults_after
 
--- what was found is told of a run: its report, or its races
+-- what was found is told of a run: its report, its races, or what led to its violations
 abbrev pub TellsRun : Outcome → Type 0
 TellsRun Ran = Unit {0}
 TellsRun (Raced races) = Unit {0}
+TellsRun (Traced violations) = Unit {0}
 TellsRun found = ⊥
 
 -- a run, of which the whole text was put, with its status
@@ -204,6 +208,14 @@ pub record IsChecked (hosts : HostTable) (sink : SinkSeen) (kept : RunRecord) (p
   pub status : answer ≡ race_status kept races
   pub text : Appends sink.taken_before sink.taken_after (race_text kept races)
 
+-- the run's status, with what led to each first violation, and the record of the program's run with this input
+pub record IsExplained (hosts : HostTable) (sink : SinkSeen) (kept : RunRecord) (program : Program) (input : List ℕ) (run : ScheduledRun) (answer : ℕ) : Type 0 where
+  pub right : Replayed program input hosts run.settings.limits run.schedule kept
+  pub violations : List Explained
+  pub explained : AreExplained kept violations
+  pub status : answer ≡ status_of kept
+  pub text : Appends sink.taken_before sink.taken_after (explain_text kept violations)
+
 -- 0, with how many functions and instructions the program has
 pub record IsCounted (sink : SinkSeen) (program : Program) (answer : ℕ) : Type 0 where
   pub status : answer ≡ 0
@@ -221,6 +233,7 @@ IsServed hosts sink kept program input answer (Instrument file) = IsTranslated h
 IsServed hosts sink kept program input answer (Replay run) = IsReported hosts sink kept program input run answer
 IsServed hosts sink kept program input answer (Run run) = IsRunRight hosts sink kept program input run answer
 IsServed hosts sink kept program input answer (Races run) = IsChecked hosts sink kept program input run answer
+IsServed hosts sink kept program input answer (Explain run) = IsExplained hosts sink kept program input run answer
 
 -- where all is well, the job is served, or the call is out of memory
 abbrev pub IsComplete : FilesSeen → HostTable → SinkSeen → Option Job → RunRecord → ℕ → Type 0

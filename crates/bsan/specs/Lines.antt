@@ -10,8 +10,8 @@ use Rattle.bsan.specs.declared.outcome.Role.TheVariants.{Program, Input}
 
 abbrev pub usage_text : List ℕ
 usage_text =
-    codes "usage: bsan check FILE | instrument FILE | solo FILE | replay FILE SCHEDULE | run FILE | races FILE SCHEDULE" ++ 10
-    ∷ (codes "options of solo, replay, run and races: --input FILE --steps N --turns N --allocs N" ++ 10 ∷ [])
+    codes "usage: bsan check FILE | instrument FILE | solo FILE | replay FILE SCHEDULE | run FILE | races FILE SCHEDULE | explain FILE SCHEDULE" ++ 10
+    ∷ (codes "options of solo, replay, run, races and explain: --input FILE --steps N --turns N --allocs N" ++ 10 ∷ [])
 
 abbrev pub role_text : Role → List ℕ
 role_text Program = codes "program"

@@ -1,7 +1,7 @@
 -- The runs that a job asks for.
 use Rattle.std.specs.Prelude.{◌≡◌, ℕ, List, [], Option, Some, None}
 use Rattle.command_words.specs.Jobs.{Job, NativeRun, ScheduledRun}
-use Rattle.command_words.specs.Jobs.Job.{Replay, Run, Races}
+use Rattle.command_words.specs.Jobs.Job.{Replay, Run, Races, Explain}
 use Rattle.core_model.specs.Kept.{Replayed}
 use Rattle.history.specs.declared.record.RunRecord.{RunRecord}
 use Rattle.ir_ast.specs.declared.hosts.HostTable.{HostTable}
@@ -31,4 +31,5 @@ abbrev pub IsOfRun : FilesSeen → HostTable → RunRecord → Program → Job �
 IsOfRun files hosts kept program (Replay run) = IsScheduledRun files hosts kept program run
 IsOfRun files hosts kept program (Run run) = IsNativeRun files hosts kept program run
 IsOfRun files hosts kept program (Races run) = IsScheduledRun files hosts kept program run
+IsOfRun files hosts kept program (Explain run) = IsScheduledRun files hosts kept program run
 IsOfRun files hosts kept program job = ⊥

@@ -2,7 +2,7 @@
 use Rattle.std.specs.Prelude.{ℕ, List, Option, IfSome}
 use Rattle.std.specs.Option.{option_and_then}
 use Rattle.command_words.specs.Jobs.{Job, settings_in}
-use Rattle.command_words.specs.Jobs.Job.{Check, Instrument, Replay, Run, Races}
+use Rattle.command_words.specs.Jobs.Job.{Check, Instrument, Replay, Run, Races, Explain}
 use Rattle.core_model.specs.Running.{AreLimits}
 
 -- a word, or a name of a file, as its bytes
@@ -16,6 +16,7 @@ file_in (Instrument file) = file
 file_in (Replay run) = run.file
 file_in (Run run) = run.file
 file_in (Races run) = run.file
+file_in (Explain run) = run.file
 
 -- the file with the input, where the job has a run and names one
 abbrev pub input_in : Job → Option Text

@@ -10,8 +10,8 @@ use std::alloc::Global;
 
 /// How the program is used.
 pub(crate) const USAGE: &str =
-    "usage: bsan check FILE | instrument FILE | solo FILE | replay FILE SCHEDULE | run FILE | races FILE SCHEDULE\n\
-options of solo, replay, run and races: --input FILE --steps N --turns N --allocs N\n";
+    "usage: bsan check FILE | instrument FILE | solo FILE | replay FILE SCHEDULE | run FILE | races FILE SCHEDULE | explain FILE SCHEDULE\n\
+options of solo, replay, run, races and explain: --input FILE --steps N --turns N --allocs N\n";
 
 /// A file's role in a word.
 fn role_name(role: Role) -> &'static str

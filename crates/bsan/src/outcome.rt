@@ -4,6 +4,7 @@ ghost use Rattle.bsan.specs.Answer as answer;
 
 use crate::lines::{USAGE, accepted_line, fault_line, file_fault_line, rule_line, too_long_line};
 use bsan_ids::{ListOf, NoMemory};
+use explain::{Explained, explain_text};
 use ir_reader::ReadFault;
 use ir_rules::Rule;
 use race_check::{Race, race_status, race_text};
@@ -40,6 +41,8 @@ pub enum Outcome {
     Ran,
     /// The program was run, its record kept, and the data races of the run found.
     Raced { races: ListOf<Race> },
+    /// The program was run, its record kept, and the steps found that led to each first violation.
+    Traced { violations: ListOf<Explained> },
 }
 
 /// The status of what was found. After a run it is that of the record, or of its races.
@@ -52,12 +55,13 @@ pub fn status_for(found: &Outcome, kept: &RunRecord) -> u8
         Outcome::NotRead { .. } => 3,
         Outcome::NotVerified { .. } => 4,
         Outcome::Accepted { .. } | Outcome::Instrumented { .. } => 0,
-        Outcome::Ran => status_of(kept),
+        Outcome::Ran | Outcome::Traced { .. } => status_of(kept),
         Outcome::Raced { races } => race_status(kept, races.as_slice()),
     }
 }
 
-/// The text of what was found: a line or two, the target code, the report of the record, or the lines of its races.
+/// The text of what was found: a line or two, the target code, the report of the record, the lines of its races, or
+/// those on what led to its violations.
 ///
 /// # Errors
 ///
@@ -79,5 +83,6 @@ pub fn text_for(alloc: Global, found: &Outcome, kept: &RunRecord) -> Result<Vec<
         Outcome::Instrumented { target } => text(alloc, target),
         Outcome::Ran => text_of(alloc, kept),
         Outcome::Raced { races } => race_text(alloc, kept, races.as_slice()),
+        Outcome::Traced { violations } => explain_text(alloc, kept, violations.as_slice()),
     }
 }

@@ -18,8 +18,8 @@ const REPORT: &str =
     "thread 0 returned 0\nsteps 0, allocations 0, threads 1, violations 0\nstatus 0\n";
 
 const USAGE: &str =
-    "usage: bsan check FILE | instrument FILE | solo FILE | replay FILE SCHEDULE | run FILE | races FILE SCHEDULE\n\
-    options of solo, replay, run and races: --input FILE --steps N --turns N --allocs N\n";
+    "usage: bsan check FILE | instrument FILE | solo FILE | replay FILE SCHEDULE | run FILE | races FILE SCHEDULE | explain FILE SCHEDULE\n\
+    options of solo, replay, run, races and explain: --input FILE --steps N --turns N --allocs N\n";
 
 /// Files of one call: the program's, which is `p`, and the input's, which is `q`, with the reads that fail.
 #[derive(Clone, Copy)]
@@ -83,7 +83,7 @@ fn call<R: Threads + Wait + Sync>(
 }
 
 /// Words, the program, the status and the text that comes.
-const TEXTS: [(&str, &str, u8, &str); 23] = [
+const TEXTS: [(&str, &str, u8, &str); 26] = [
     (
         "solo p",
         "bir 1\nfunc @main(",
@@ -155,9 +155,12 @@ const TEXTS: [(&str, &str, u8, &str); 23] = [
     ("replay p 0,,1", SMALLEST, 2, USAGE),
     ("check p --help", SMALLEST, 2, USAGE),
     ("races p", SMALLEST, 2, USAGE),
+    ("explain p", SMALLEST, 2, USAGE),
     ("solo missing", SMALLEST, 7, "read fault: program\n"),
     ("races missing 0", SMALLEST, 7, "read fault: program\n"),
     ("races p 0", "bir 1\n$", 3, "not read: BadByte at 6\n"),
+    ("explain missing 0", SMALLEST, 7, "read fault: program\n"),
+    ("explain p 0", "bir 1\n$", 3, "not read: BadByte at 6\n"),
     (
         "races p 0",
         "bir 1 func @f() -> void { l: ret void }",
@@ -246,6 +249,108 @@ const RACES: [(&str, &str, u8, &str); 10] = [
         race on allocation 1: thread 0 at instruction 6, step 4, write 0..8; thread 1 at instruction 1, step 8, write 0..8\n\
         races 2\nstatus 10\n",
     ),
+];
+
+/// Words, the program, the status and what is told of the steps that led to the violations.
+const EXPLANATIONS: [(&str, &str, u8, &str); 12] = [
+    (
+        "explain p 0",
+        "bir 1 func @main() -> i64 { e: %x = alloca 8 %y = retag mut %x, 8 store i64 1, %y %v = load i64, %x \
+        store i64 2, %y ret i64 0 }",
+        1,
+        "violation on allocation 1 by thread 0 at instruction 4, step 5: write 0..8 through tag 2: node 2 is Frozen at byte 0\n  \
+        node 2 made by thread 0 at instruction 1, step 2: retag mut 0..8 through tag 1\n  \
+        state Frozen since thread 0 at instruction 3, step 4: read 0..8 through tag 1\n\
+        thread 0 returned 0\nsteps 6, allocations 1, threads 1, violations 1\nstatus 1\n",
+    ),
+    // A shared reborrow is Frozen from its making on.
+    (
+        "explain p 0",
+        "bir 1 func @main() -> i64 { e: %x = alloca 8 %y = retag shr %x, 8 store i64 1, %y ret i64 0 }",
+        1,
+        "violation on allocation 1 by thread 0 at instruction 2, step 3: write 0..8 through tag 2: node 2 is Frozen at byte 0\n  \
+        node 2 made by thread 0 at instruction 1, step 2: retag shr 0..8 through tag 1\n  \
+        state Frozen since thread 0 at instruction 1, step 2: retag shr 0..8 through tag 1\n\
+        thread 0 returned 0\nsteps 4, allocations 1, threads 1, violations 1\nstatus 1\n",
+    ),
+    // A protector's end wrote.
+    (
+        "explain p 0",
+        "bir 1 func @f(ptr mut(8) %y, ptr %x) -> ptr { e: store i64 1, %y %q = gep %x, 8 %z = retag mut %q, 8 ret ptr %z } \
+        func @main() -> i64 { e: %x = alloca 16 %z = call ptr @f(ptr %x, ptr %x) %p = gep %z, 18446744073709551608 \
+        %v = load i64, %p ret i64 0 }",
+        1,
+        "violation on allocation 1 by thread 0 at instruction 7, step 6: read 0..8 through tag 4: node 4 is Disabled at byte 0\n  \
+        node 4 made by thread 0 at instruction 2, step 4: retag mut 8..16 through tag 1\n  \
+        state Disabled since thread 0 at instruction 3, step 5: end of protector 2\n\
+        thread 0 returned 0\nsteps 7, allocations 1, threads 1, violations 1\nstatus 1\n",
+    ),
+    (
+        "explain p 0",
+        "bir 1 func @main() -> i64 { e: %x = alloca 8 %a = retag mut %x, 0 %b = retag mut %x, 8 %q = gep %x, 1 \
+        %c = retag mut %q, 8 ret i64 0 }",
+        1,
+        "violation on allocation 1 by thread 0 at instruction 4, step 3: retag mut 1..9 through tag 1: out of range\n  \
+        allocation made by thread 0 at instruction 0, step 1: make 8 stack\n\
+        thread 0 returned 0\nsteps 4, allocations 1, threads 1, violations 1\nstatus 1\n",
+    ),
+    // What threads print is left out.
+    (
+        "explain p 0",
+        "bir 1 func @main() -> i64 { e: %a = alloca 8 %b = alloca 8 %p = gep %a, 4294967296 store i64 5, %p \
+        %v = load i64, %b print i64 %v ret i64 0 }",
+        1,
+        "violation on allocation 2 by thread 0 at instruction 3, step 3: write 0..8 through tag 1 of allocation 1: stranger\n  \
+        no node of allocation 2 is named\n\
+        thread 0 returned 0\nsteps 7, allocations 2, threads 1, violations 1\nstatus 1\n",
+    ),
+    (
+        "explain p 0",
+        "bir 1 func @main() -> i64 { e: %p = malloc 8 free %p %q = retag mut %p, 8 ret i64 0 }",
+        1,
+        "violation on allocation 1 by thread 0 at instruction 2, step 3: retag mut 0..8 through tag 1: freed\n  \
+        allocation freed by thread 0 at instruction 1, step 2: free through tag 1\n\
+        thread 0 returned 0\nsteps 3, allocations 1, threads 1, violations 1\nstatus 1\n",
+    ),
+    // The child's read froze what the parent then writes.
+    (
+        "explain p 0,0,0,0,1,0",
+        RACING,
+        1,
+        "violation on allocation 1 by thread 0 at instruction 6, step 6: write 0..8 through tag 2: node 2 is Frozen at byte 0\n  \
+        node 2 made by thread 0 at instruction 3, step 2: retag mut 0..8 through tag 1\n  \
+        state Frozen since thread 1 at instruction 0, step 5: read 0..8 through tag 1\n\
+        thread 0 returned 0\nthread 1 returned 0\nsteps 8, allocations 1, threads 2, violations 1\nstatus 1\n",
+    ),
+    (
+        "explain p 0,0,0,0,0,1",
+        RACING,
+        0,
+        "thread 0 returned 0\nthread 1 returned 0\nsteps 8, allocations 1, threads 2, violations 0\nstatus 0\n",
+    ),
+    (
+        "explain p 0",
+        TWO_HALVES,
+        0,
+        "thread 0 returned 0\nthread 1 returned 5\nsteps 10, allocations 1, threads 2, violations 0\nstatus 0\n",
+    ),
+    // The status is the run's own.
+    (
+        "explain p 0",
+        "bir 1 func @main() -> i64 { e: %p = malloc 8 free %p %v = load i64, %p ret i64 0 }",
+        5,
+        "thread 0 trapped: Freed at instruction 2\nsteps 3, allocations 1, threads 1, violations 0\nstatus 5\n",
+    ),
+    (
+        "explain p 0 --steps 3",
+        "bir 1 func @main() -> i64 { e: %x = alloca 8 %y = retag shr %x, 8 store i64 1, %y ret i64 0 }",
+        6,
+        "violation on allocation 1 by thread 0 at instruction 2, step 3: write 0..8 through tag 2: node 2 is Frozen at byte 0\n  \
+        node 2 made by thread 0 at instruction 1, step 2: retag shr 0..8 through tag 1\n  \
+        state Frozen since thread 0 at instruction 1, step 2: retag shr 0..8 through tag 1\n\
+        thread 0 reached the step limit with stamp 4\nsteps 3, allocations 1, threads 1, violations 1\nstatus 6\n",
+    ),
+    ("explain p 7", SMALLEST, 0, REPORT),
 ];
 
 /// Words, the program, the status and the report that comes.
@@ -522,6 +627,7 @@ fn serves_programs(rt: HostRuntime) -> Result<(), Fail> {
         (TEXTS.as_slice(), false),
         (RUNS.as_slice(), true),
         (RACES.as_slice(), true),
+        (EXPLANATIONS.as_slice(), true),
     ] {
         for (line, program, status, want) in table {
             let given = Given {

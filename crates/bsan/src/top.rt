@@ -7,7 +7,8 @@ ghost use Rattle.core_model.specs.Kept.{Replayed};
 ghost use Rattle.core_model.specs.Running.{AreLimits};
 ghost use Rattle.ir_text.specs.Bytes.{most_bytes};
 ghost use Rattle.history.specs.Records.{empty_record, merged, HasDistinctStamps};
-ghost use Rattle.bsan.specs.Answer.{FindsIn, HasCause, Answers, CanBeTold, IsTold, IsRaced};
+ghost use Rattle.explain.specs.Explanations.{AreHistories};
+ghost use Rattle.bsan.specs.Answer.{FindsIn, HasCause, Answers, CanBeTold, IsTold, IsRaced, IsTraced};
 ghost use Rattle.bsan.specs.Seen.{seen_files, seen_sink, Failed, WasTooLong, Puts};
 ghost use Rattle.bsan.specs.Runs.{IsScheduledRun};
 ghost use Rattle.bsan.specs.Words.{file_in, HasLimits};
@@ -19,6 +20,7 @@ use crate::outcome::{Outcome, status_for, text_for};
 use bsan_ids::{ListOf, NoMemory};
 use command_words::{Job, ScheduledRun, WordsFault, read_job};
 use core_model::{main_machine, replay};
+use explain::explain;
 use hosts::Hosts;
 use instrument::instrument;
 use ir_rules::Verified;
@@ -123,6 +125,24 @@ fn find_races(alloc: Global, kept: &mut RunRecord) -> Result<Outcome, NoMemory>
     }
 }
 
+/// Finds what led to each first violation of a run. Without memory for it there is no record of the run either.
+fn find_causes(alloc: Global, kept: &mut RunRecord) -> Result<Outcome, NoMemory>
+    requires { AreHistories kept.old.allocs }
+    ensures found { IfOk result (IsTraced kept.new) }
+    ensures same { OnOk result (kept.new ≡ kept.old) }
+    ensures empty { OnErr result (kept.new ≡ empty_record) }
+{
+    match explain(alloc, kept) {
+        Ok(violations) => Ok(Outcome::Traced {
+            violations: ListOf::from_vec(violations),
+        }),
+        Err(NoMemory) => {
+            kept.clear();
+            Err(NoMemory)
+        }
+    }
+}
+
 /// Makes a run on one native thread, and tells of it.
 fn serve_replay<S: Files>(
     alloc: Global,
@@ -169,6 +189,29 @@ fn serve_races<S: Files>(
     }
 }
 
+/// Makes a run on one native thread, and finds what led to its violations.
+fn serve_explain<S: Files>(
+    alloc: Global,
+    asked: &ScheduledRun<'_>,
+    verified: &Verified,
+    files: &mut S,
+    hosts: &Hosts,
+    kept: &mut RunRecord,
+) -> Result<Outcome, NoMemory>
+    requires hosts { verified.now.hosts ≡ hosts.now.table }
+    requires limits { AreLimits asked.now.settings.limits }
+    requires empty { kept.old ≡ empty_record }
+    ensures { MatchResult result (λ found. FindsIn
+        (seen_files (S.content files.old) (S.faults files.old) (S.faults files.new) (S.overlong files.old) (S.overlong files.new))
+        hosts.now.table kept.new found (job_meant (Job.Explain asked.now)) verified.now.program)
+        (λ _. kept.new ≡ empty_record) }
+{
+    match run(alloc, asked, verified, files, hosts, kept) {
+        Ok(()) => find_causes(alloc, kept),
+        Err(fault) => unread_input(fault),
+    }
+}
+
 /// Serves a job on a verified program.
 fn serve<S: Files>(
     alloc: Global,
@@ -198,6 +241,7 @@ fn serve<S: Files>(
         Job::Replay(asked) => serve_replay(alloc, asked, verified, files, hosts, kept),
         Job::Run(_) => unreachable!(),
         Job::Races(asked) => serve_races(alloc, asked, verified, files, hosts, kept),
+        Job::Explain(asked) => serve_explain(alloc, asked, verified, files, hosts, kept),
     }
 }
 
@@ -207,7 +251,7 @@ fn file_of<'w>(job: &Job<'w>) -> &'w str
 {
     match job {
         Job::Check { file } | Job::Instrument { file } => file,
-        Job::Replay(run) | Job::Races(run) => run.file,
+        Job::Replay(run) | Job::Races(run) | Job::Explain(run) => run.file,
         Job::Run(run) => run.file,
     }
 }

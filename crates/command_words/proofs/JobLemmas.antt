@@ -7,7 +7,7 @@ use Rattle.std.proofs.lemmas.Bool.{false_from_ne_true}
 use Rattle.clap.specs.Words.{App, Row, Text, Kinds, matches_of}
 use Rattle.clap.specs.Faults.{fault_of}
 use Rattle.command_words.specs.Jobs.{ScheduledRun, NativeRun, Job, unless_fault, said_by, file_by, solo_by, native_by, scheduled_by, job_of}
-use Rattle.command_words.specs.Jobs.Job.{Check, Instrument, Replay, Run, Races}
+use Rattle.command_words.specs.Jobs.Job.{Check, Instrument, Replay, Run, Races, Explain}
 use Rattle.command_words.specs.Commands.{Takes}
 use Rattle.command_words.specs.Meaning.{native_meant, run_meant}
 use Rattle.command_words.specs.declared.jobs.NativeRun as native
@@ -48,24 +48,26 @@ next : (other : Bool) (x rest : Option Job) → other ≡ false → rest ≡ Non
 next other x rest is none = rw is none
 
 unnamed : (name : Text) (rest : List Text) → (name ≡ codes "check" → ⊥) → (name ≡ codes "instrument" → ⊥) → (name ≡ codes "solo" → ⊥)
-    → (name ≡ codes "replay" → ⊥) → (name ≡ codes "run" → ⊥) → (name ≡ codes "races" → ⊥) → job_of (name ∷ rest) ≡ None
+    → (name ≡ codes "replay" → ⊥) → (name ≡ codes "run" → ⊥) → (name ≡ codes "races" → ⊥) → (name ≡ codes "explain" → ⊥)
+    → job_of (name ∷ rest) ≡ None
 unfolding job_of
-unnamed name rest check instrument solo replay run races =
+unnamed name rest check instrument solo replay run races explain =
     next (bytes_eq name (codes "check")) (option_map Check (file_by (codes "check") (name ∷ rest))) _ (differs name (codes "check") check)
     (next (bytes_eq name (codes "instrument")) (option_map Instrument (file_by (codes "instrument") (name ∷ rest))) _ (differs name (codes "instrument") instrument)
     (next (bytes_eq name (codes "solo")) (option_map Replay (solo_by (name ∷ rest))) _ (differs name (codes "solo") solo)
     (next (bytes_eq name (codes "replay")) (option_map Replay (scheduled_by (codes "replay") (name ∷ rest))) _ (differs name (codes "replay") replay)
     (next (bytes_eq name (codes "run")) (option_map Run (native_by (codes "run") (name ∷ rest))) _ (differs name (codes "run") run)
-    (next (bytes_eq name (codes "races")) (option_map Races (scheduled_by (codes "races") (name ∷ rest))) None (differs name (codes "races") races) refl)))))
+    (next (bytes_eq name (codes "races")) (option_map Races (scheduled_by (codes "races") (name ∷ rest))) _ (differs name (codes "races") races)
+    (next (bytes_eq name (codes "explain")) (option_map Explain (scheduled_by (codes "explain") (name ∷ rest))) None (differs name (codes "explain") explain) refl))))))
 
 pub no_command : {A : Type 0} (text : A → Text) (words : List A) (first : A) (name : Text) → (let o : Option A = Some first in o) ≡ slice_get words 0 → name ≡ text first
     → (name ≡ codes "check" → ⊥) → (name ≡ codes "instrument" → ⊥) → (name ≡ codes "solo" → ⊥) → (name ≡ codes "replay" → ⊥) → (name ≡ codes "run" → ⊥)
-    → (name ≡ codes "races" → ⊥) → job_of (map text words) ≡ None
-no_command text [] first name e is check instrument solo replay run races = absurd cc
-no_command text (w ∷ words) first name e is check instrument solo replay run races =
+    → (name ≡ codes "races" → ⊥) → (name ≡ codes "explain" → ⊥) → job_of (map text words) ≡ None
+no_command text [] first name e is check instrument solo replay run races explain = absurd cc
+no_command text (w ∷ words) first name e is check instrument solo replay run races explain =
     let same : first ≡ w = cc in
     let named : name ≡ text w = is ∙ ap text same in
-    ap (λ (t : Text). job_of (t ∷ map text words)) (sym named) ∙ unnamed name (map text words) check instrument solo replay run races
+    ap (λ (t : Text). job_of (t ∷ map text words)) (sym named) ∙ unnamed name (map text words) check instrument solo replay run races explain
 
 -- ---- a run that the words ask for by another name
 pub means_as : {E : Type 0} (made : Result rust.ScheduledRun E) (said other : Option ScheduledRun) → said ≡ other → IfOk made (λ run. said ≡ Some (run_meant run))

@@ -8,7 +8,7 @@ use Rattle.bsan_ids.specs.declared.numbers.Limits.{Limits}
 use Rattle.clap.specs.Words.{App, Row, Text, Kinds, matches_of, first_of}
 use Rattle.clap.specs.Faults.{fault_of}
 use Rattle.command_words.specs.Jobs.{Settings, ScheduledRun, NativeRun, Job, native, native_of, native_by, scheduled, settings_in, limit_of, limits_of, settings_of, file_of, run_of, schedule_in, unless_fault, said_by, file_by, solo_by, scheduled_by, job_of}
-use Rattle.command_words.specs.Jobs.Job.{Check, Instrument, Replay, Run, Races}
+use Rattle.command_words.specs.Jobs.Job.{Check, Instrument, Replay, Run, Races, Explain}
 use Rattle.command_words.specs.Numbers.{has_digits, number_in}
 use Rattle.command_words.specs.Commands.{run_app, schedule_app}
 
@@ -157,24 +157,27 @@ unfolding job_of
 limits_in_range [] job is = absurd cc
 limits_in_range (name ∷ rest) job is =
     by_name (bytes_eq name (codes "check")) (bytes_eq name (codes "instrument")) (bytes_eq name (codes "solo")) (bytes_eq name (codes "replay"))
-    (bytes_eq name (codes "run")) (bytes_eq name (codes "races")) is
+    (bytes_eq name (codes "run")) (bytes_eq name (codes "races")) (bytes_eq name (codes "explain")) is
   where
-    by_name : (check instrument solo replay run races : Bool)
+    by_name : (check instrument solo replay run races explain : Bool)
         → (if check then option_map Check (file_by (codes "check") (name ∷ rest))
         else (if instrument then option_map Instrument (file_by (codes "instrument") (name ∷ rest))
         else (if solo then option_map Replay (solo_by (name ∷ rest))
         else (if replay then option_map Replay (scheduled_by (codes "replay") (name ∷ rest))
         else (if run then option_map Run (native_by (codes "run") (name ∷ rest))
         else (if races then option_map Races (scheduled_by (codes "races") (name ∷ rest))
-        else None)))))) ≡ Some job
+        else (if explain then option_map Explain (scheduled_by (codes "explain") (name ∷ rest))
+        else None))))))) ≡ Some job
         → AreWithin (settings_in job)
-    by_name true instrument solo replay run races found = of_file (file_by (codes "check") (name ∷ rest)) Check (λ n. refl) job found
-    by_name false true solo replay run races found = of_file (file_by (codes "instrument") (name ∷ rest)) Instrument (λ n. refl) job found
-    by_name false false true replay run races found = of_run of_schedule (solo_by (name ∷ rest)) Replay (λ r. refl) (solo_within (name ∷ rest)) job found
-    by_name false false false true run races found =
+    by_name true instrument solo replay run races explain found = of_file (file_by (codes "check") (name ∷ rest)) Check (λ n. refl) job found
+    by_name false true solo replay run races explain found = of_file (file_by (codes "instrument") (name ∷ rest)) Instrument (λ n. refl) job found
+    by_name false false true replay run races explain found = of_run of_schedule (solo_by (name ∷ rest)) Replay (λ r. refl) (solo_within (name ∷ rest)) job found
+    by_name false false false true run races explain found =
         of_run of_schedule (scheduled_by (codes "replay") (name ∷ rest)) Replay (λ r. refl) (scheduled_within (codes "replay") (name ∷ rest)) job found
-    by_name false false false false true races found =
+    by_name false false false false true races explain found =
         of_run of_native (native_by (codes "run") (name ∷ rest)) Run (λ r. refl) (native_within (codes "run") (name ∷ rest)) job found
-    by_name false false false false false true found =
+    by_name false false false false false true explain found =
         of_run of_schedule (scheduled_by (codes "races") (name ∷ rest)) Races (λ r. refl) (scheduled_within (codes "races") (name ∷ rest)) job found
-    by_name false false false false false false found = absurd cc
+    by_name false false false false false false true found =
+        of_run of_schedule (scheduled_by (codes "explain") (name ∷ rest)) Explain (λ r. refl) (scheduled_within (codes "explain") (name ∷ rest)) job found
+    by_name false false false false false false false found = absurd cc

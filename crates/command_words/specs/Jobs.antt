@@ -31,6 +31,7 @@ pub data Job : Type 0 where
   Replay : (run : ScheduledRun) → Job
   Run : (run : NativeRun) → Job
   Races : (run : ScheduledRun) → Job
+  Explain : (run : ScheduledRun) → Job
 
 -- what the options say, where the job has a run
 abbrev pub settings_in : Job → Option Settings
@@ -39,6 +40,7 @@ settings_in (Instrument file) = None
 settings_in (Replay run) = Some run.settings
 settings_in (Run run) = Some run.settings
 settings_in (Races run) = Some run.settings
+settings_in (Explain run) = Some run.settings
 
 -- the run on native threads that a job is
 abbrev pub native_in : Job → Option NativeRun
@@ -125,4 +127,5 @@ job_of (name ∷ rest) =
     else (if bytes_eq name (codes "replay") then option_map Replay (scheduled_by (codes "replay") (name ∷ rest))
     else (if bytes_eq name (codes "run") then option_map Run (native_by (codes "run") (name ∷ rest))
     else (if bytes_eq name (codes "races") then option_map Races (scheduled_by (codes "races") (name ∷ rest))
-    else None)))))
+    else (if bytes_eq name (codes "explain") then option_map Explain (scheduled_by (codes "explain") (name ∷ rest))
+    else None))))))

@@ -6,7 +6,7 @@ use Rattle.command_words.specs.declared.jobs.Job.{Job}
 use Rattle.command_words.specs.declared.jobs.NativeRun.{NativeRun}
 use Rattle.command_words.specs.declared.jobs.ScheduledRun.{ScheduledRun}
 use Rattle.command_words.specs.declared.jobs.Settings.{Settings}
-use Rattle.command_words.specs.declared.jobs.Job.TheVariants.{Check, Instrument, Replay, Run, Races}
+use Rattle.command_words.specs.declared.jobs.Job.TheVariants.{Check, Instrument, Replay, Run, Races, Explain}
 
 abbrev pub settings_meant : Settings → jobs.Settings
 settings_meant settings = record { input = option_map (λ name. name.now) settings.input; limits = settings.limits }
@@ -27,3 +27,4 @@ job_meant (Instrument file) = jobs.Instrument file.now
 job_meant (Replay run) = jobs.Replay (run_meant run)
 job_meant (Run run) = jobs.Run (native_meant run)
 job_meant (Races run) = jobs.Races (run_meant run)
+job_meant (Explain run) = jobs.Explain (run_meant run)

@@ -54,6 +54,8 @@ pub enum Job<'w> {
     Run(NativeRun<'w>),
     /// Run a program on one native thread, and tell the data races of the run.
     Races(ScheduledRun<'w>),
+    /// Run a program on one native thread, and tell which steps led to the violations of the run.
+    Explain(ScheduledRun<'w>),
 }
 
 impl<'w> Job<'w> {
@@ -67,7 +69,8 @@ impl<'w> Job<'w> {
     {
         match self {
             Job::Run(run) => Some(*run),
-            Job::Check { .. } | Job::Instrument { .. } | Job::Replay(_) | Job::Races(_) => None,
+            Job::Check { .. } | Job::Instrument { .. } => None,
+            Job::Replay(_) | Job::Races(_) | Job::Explain(_) => None,
         }
     }
 }
@@ -222,6 +225,7 @@ pub fn read_job<'w>(alloc: Global, words: &'w [String]) -> Result<Job<'w>, Words
         "replay" => Ok(Job::Replay(read_scheduled(alloc, "replay", words)?)),
         "run" => Ok(Job::Run(read_native(alloc, "run", words)?)),
         "races" => Ok(Job::Races(read_scheduled(alloc, "races", words)?)),
+        "explain" => Ok(Job::Explain(read_scheduled(alloc, "explain", words)?)),
         _ => Err(WordsFault::Refused),
     }
 }

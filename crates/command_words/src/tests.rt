@@ -36,6 +36,7 @@ fn told(alloc: Global, line: &str) -> Result<String, AllocError> {
             format!(in alloc; "run {file} {settings}")
         }
         Ok(Job::Races(run)) => told_run(alloc, "races", &run),
+        Ok(Job::Explain(run)) => told_run(alloc, "explain", &run),
         Err(WordsFault::Refused) => String::from_str(alloc, "refused"),
         Err(WordsFault::NoMemory) => String::from_str(alloc, "no memory"),
     }
@@ -87,6 +88,11 @@ fn words_are_read(rt: HostRuntime) -> Result<(), Fail> {
         (
             "races 3 --input=races --allocs 9 --turns=8 --steps 7 1023",
             "races 3 races 7 8 9 1 1023",
+        ),
+        ("explain p 0,7", "explain p none 1000000 10000000 65536 2 7"),
+        (
+            "explain --turns 3 explain 1,0 --steps=2 --allocs 1 --input q",
+            "explain explain q 2 3 1 2 0",
         ),
     ];
     for (line, want) in taken {
@@ -144,6 +150,9 @@ fn words_are_read(rt: HostRuntime) -> Result<(), Fail> {
         "races p 1,1024",
         "races p 1,",
         "race p 1",
+        "explain p",
+        "explain p 0,",
+        "explain p 0 --allocs 65537",
     ];
     for line in refused {
         assert_eq!(rt; told(alloc, line)?.as_str(), "refused", "{line}");

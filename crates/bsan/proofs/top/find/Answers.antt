@@ -4,7 +4,7 @@ use Rattle.command_words.specs.Meaning.{job_meant}
 use Rattle.bsan.specs.Words.{Text}
 use Rattle.bsan.specs.Seen.{FilesSeen, seen_files}
 use Rattle.bsan.specs.Answer.{IsLoaded, IsUnloaded}
-use Rattle.bsan.proofs.Found.{served, alone, ok_of}
+use Rattle.bsan.proofs.Found.{served, unloaded, alone, ok_of, err_of}
 use Rattle.bsan.proofs.Limits.{has_limits}
 use Rattle.bsan.proofs.top.find.Goals as goal
 
@@ -42,3 +42,17 @@ returns-in-Ok-2 g c =
     (alone (job_of words) job c.in-Ok.ensures.job (search rules))
     (subst (λ (file : Text). IsLoaded first hosts file c.in-Ok-2.verified) c.file_of.ensures loaded)
     c.serve.ensures
+
+pub returns : goal.returns
+returns g c =
+    let first : FilesSeen = seen_files (g.S.Files.content c.args.files.now) (g.S.Files.faults c.args.files.now) (g.S.Files.faults c.load.new.files)
+    (g.S.Files.overlong c.args.files.now) (g.S.Files.overlong c.load.new.files) in
+    let hosts = c.args.hosts.now.table in
+    let words : List Text = map string_bytes c.args.words.now in
+    let job : Job = job_meant c.in-Ok.job in
+    let of = err_of (IsLoaded first hosts c.file_of.result.now) (IsUnloaded first hosts c.file_of.result.now) c.in_ok-verified.field-0 c.in-Err.found c.in-Err.is
+    c.in_ok-verified.ensures.loaded in
+    unloaded first hosts (on_one_thread (job_of words)) c.clear.new.self job c.in-Err.found
+    (alone (job_of words) job c.in-Ok.ensures.job (search rules))
+    (search rules)
+    (subst (λ (file : Text). IsUnloaded first hosts file c.in-Err.found) c.file_of.ensures of)
