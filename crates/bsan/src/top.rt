@@ -320,9 +320,10 @@ fn answer<S: Files, K: Sink>(
 /// Serves the commands `check FILE`, which reads and verifies the program of the file and puts how many
 /// functions and instructions it has, `instrument FILE`, which puts the text of its target code instead,
 /// `solo FILE`, which runs it on one native thread and puts the report of that run, `replay FILE SCHEDULE`,
-/// which first picks the threads of a schedule, and `races FILE SCHEDULE`, which puts the first data race on each
-/// allocation in that run instead. `solo`, `replay` and `races` take `--input FILE`, `--steps N`, `--turns N` and
-/// `--allocs N`. The program may call the functions of `hosts`.
+/// which first picks the threads of a schedule, `races FILE SCHEDULE`, which puts the first data race on each
+/// allocation in that run instead, and `explain FILE SCHEDULE`, which puts each first violation in it with the steps that
+/// led to it. `solo`, `replay`, `races` and `explain` take `--input FILE`, `--steps N`, `--turns N` and `--allocs N`. The
+/// program may call the functions of `hosts`.
 ///
 /// First of all it empties `kept`; a run fills it. It does its work in this order: the words, the program's file,
 /// reading, verifying, the input's file, the run. Each file may have up to 1,048,576 bytes. Then it puts
@@ -330,19 +331,22 @@ fn answer<S: Files, K: Sink>(
 ///
 /// | status | when | text |
 /// |---|---|---|
-/// | 0 | the program ran clean, or is accepted | the report or the races, or `accepted: F functions, I instructions`, or the target code |
-/// | 1 | the run had a violation, and no end of a higher rank | the report, or the races |
+/// | 0 | the program ran clean, or is accepted | the report, the races or the explanations, or `accepted: F functions, I instructions`, or the target code |
+/// | 1 | the run had a violation, and no end of a higher rank | the report, the races, or the explanations |
 /// | 2 | the words are no command's, as `clap` reads them, or a value is out of its form or range | `usage:` with the commands, and `options of` with the options |
 /// | 3 | the text is refused | `not read: FAULT at PLACE` |
 /// | 4 | a rule is broken in the program | `not verified: RULE at PLACE` |
-/// | 5 | a thread trapped, and none reached a limit or found no memory | the report, or the races |
-/// | 6 | a thread reached the limit of steps or of turns, and none found no memory | the report, or the races |
+/// | 5 | a thread trapped, and none reached a limit or found no memory | the report, the races, or the explanations |
+/// | 6 | a thread reached the limit of steps or of turns, and none found no memory | the report, the races, or the explanations |
 /// | 7 | a read of a file failed, or the file is too long | `read fault: program`, `too long: program`, or the same with `input` |
 /// | 8 | the sink failed | a prefix of the text that was to be put |
-/// | 9 | out of memory | nothing, or the report or the races of a run in which a thread found no memory |
+/// | 9 | out of memory | nothing, or the report, the races or the explanations of a run in which a thread found no memory |
 /// | 10 | races were asked for, there is one, and the status of the run itself is 0 or 1 | the races |
 ///
-/// The races are a line for each, the earlier of its two steps first, then `races N` and `status S`.
+/// The races are a line for each, the earlier of its two steps first, then `races N` and `status S`. The explanations are
+/// the line of each first violation and, with two blanks before each, lines on who made the node that it names and who last
+/// changed that node's state there, or on who freed or made the allocation; then the threads' ends, the summary and the
+/// status of the report.
 ///
 /// This is the contract of [`bsan`](crate::bsan), for one native thread:
 ///
@@ -352,7 +356,8 @@ fn answer<S: Files, K: Sink>(
 /// a run `kept` is that of the replay of the program that was read, with the input that was read, by the schedule and
 /// within the limits of the words, and it is a right record, its erasure included. After `solo` and `replay` the text
 /// that is put is the report of `kept`, whose violation lines are the first violations. After `races` it has a line for
-/// an allocation exactly where two steps on it race in `kept`.
+/// an allocation exactly where two steps on it race in `kept`. After `explain` it has the first violations, each with its
+/// explanation by the allocation's log.
 pub fn bsan_alone<S: Files, K: Sink>(
     alloc: Global,
     words: &[String],
