@@ -2,10 +2,10 @@
 use Rattle.std.proofs.Common.{◌≡◌, ◌≢◌, ◌≤◌, List, ℕ, Option, Some, None, Result, Ok, Err, MatchResult, refl, sym, ap, subst, ◌∙◌, arith}
 use Rattle.std.specs.Option.{option_map, IsSomeAnd}
 use Rattle.bsan_ids.specs.declared.numbers.NoMemory.{NoMemory}
-use Rattle.command_words.specs.Jobs.{Job, NativeRun, ScheduledRun, native_in, on_one_thread}
-use Rattle.command_words.specs.Jobs.Job.{Check, Instrument, Replay, Run, Races, Explain}
-use Rattle.command_words.specs.Meaning.{native_meant}
-use Rattle.command_words.specs.declared.jobs.NativeRun.{NativeRun as RustRun}
+use Rattle.command_words.specs.Jobs.{Job, Settings, ScheduledRun, default_settings, native_in, on_one_thread}
+use Rattle.command_words.specs.Jobs.Job.{Check, Instrument, Replay, Run, Load, Races, Record, Recheck, Hush, Explain}
+use Rattle.command_words.specs.Meaning.{native_job_meant}
+use Rattle.command_words.specs.declared.jobs.NativeJob.{NativeJob}
 use Rattle.ir_ast.specs.declared.hosts.HostTable.{HostTable}
 use Rattle.ir_ast.specs.declared.program.Program.{Program}
 use Rattle.ir_rules.specs.declared.verified.Verified.{Verified}
@@ -17,13 +17,19 @@ use Rattle.ir_reader.specs.declared.fault.ReadFault.{ReadFault}
 use Rattle.ir_reader.specs.declared.fault.ReadFault.TheVariants as read_fault
 use Rattle.history.specs.Records.{empty_record}
 use Rattle.history.specs.declared.record.RunRecord.{RunRecord}
-use Rattle.bsan.specs.Words.{Text, file_in, input_in, HasLimits}
+use Rattle.bsan.specs.Words.{Text, Origin, origin_of, input_in, IsFrom, HasLimits, HasSize}
+use Rattle.bsan.specs.Words.Origin.{InFile, Generated}
 use Rattle.bsan.specs.Seen.{FilesSeen, Failed, WasTooLong, WasRead}
 use Rattle.bsan.specs.Runs.{IsInput, IsScheduledRun, IsNativeRun}
-use Rattle.bsan.specs.Answer.{OfJob, FindsIn, HasCause, IsAskedRun, IsNoProgram, IsLoaded, IsUnloaded}
+use Rattle.bsan.specs.Answer.{OfJob, HasProgram, Serves, FindsIn, HasCause, IsAskedJob, IsNoProgram, IsLoaded, IsUnloaded}
 use Rattle.bsan.specs.declared.outcome.Role.TheVariants as role
 use Rattle.bsan.specs.declared.outcome.Outcome.{Outcome}
-use Rattle.bsan.specs.declared.outcome.Outcome.TheVariants.{Usage, FileFault, TooLong, NotRead, NotVerified, Accepted, Instrumented, Ran, Raced, Traced}
+use Rattle.bsan.specs.declared.outcome.Outcome.TheVariants.{Usage, FileFault, TooLong, NotRead, NotVerified, Accepted, Instrumented, Ran, Loaded, Raced, Traced}
+
+-- what holds of the file that a program is from, where another holds
+pub of_origin : (P Q : Text → Type 0) (origin : Origin) → ((name : Text) → P name → Q name) → IsFrom P origin → IsFrom Q origin
+of_origin P Q (InFile name) implies is = implies name is
+of_origin P Q (Generated run) implies is = absurd is
 
 -- a refusal that is not for memory
 refuses : (text : List ℕ) (f : ReadFault) → f ≢ read_fault.NoMemory → IsRefusal text f → Refuses text f
@@ -38,9 +44,9 @@ pub no_text : (hosts : HostTable) (text : List ℕ) (f : ReadFault) (found : Out
     → IsNoProgram hosts text found
 no_text hosts text f found some refusal is = subst (IsNoProgram hosts text) (sym is) (refuses text f some refusal)
 
--- why there is no program in the file of a job is a cause
+-- why there is no program of a job is a cause
 pub unloaded : (files : FilesSeen) (hosts : HostTable) (asked : Option Job) (kept : RunRecord) (job : Job) (found : Outcome) → asked ≡ Some job
-    → kept ≡ empty_record → IsUnloaded files hosts (file_in job) found → HasCause files hosts asked kept found
+    → kept ≡ empty_record → IsUnloaded files hosts (origin_of job) found → HasCause files hosts asked kept found
 unloaded files hosts asked kept job Usage is empty of = absurd of.2
 unloaded files hosts asked kept job (FileFault role.Program) is empty of = (record { job = job; is = is; holds = of }, empty)
 unloaded files hosts asked kept job (FileFault role.Input) is empty of = absurd of
@@ -48,16 +54,12 @@ unloaded files hosts asked kept job (TooLong role.Program) is empty of = (record
 unloaded files hosts asked kept job (TooLong role.Input) is empty of = absurd of
 unloaded files hosts asked kept job (NotRead read_fault) is empty of =
     (record { job = job; is = is; text = of.0; read = of.1; holds = of.2 }, empty)
-unloaded files hosts asked kept job (NotVerified rule at) is empty of = record {
-  job = job;
-  is = is;
-  text = of.0;
-  read = of.1;
-  holds = record { program = of.2.program; reads = of.2.reads; holds = (of.2.holds, empty) };
-}
+unloaded files hosts asked kept job (NotVerified rule at) is empty of =
+    (record { job = job; is = is; text = of.0; read = of.1; holds = of.2 }, empty)
 unloaded files hosts asked kept job (Accepted functions instructions) is empty of = absurd of.2
 unloaded files hosts asked kept job (Instrumented target) is empty of = absurd of.2
 unloaded files hosts asked kept job Ran is empty of = absurd of.2
+unloaded files hosts asked kept job (Loaded seed size) is empty of = absurd of.2
 unloaded files hosts asked kept job (Raced races) is empty of = absurd of.2
 unloaded files hosts asked kept job (Traced violations) is empty of = absurd of.2
 
@@ -99,95 +101,121 @@ later_scheduled : (part whole : FilesSeen) (hosts : HostTable) (kept : RunRecord
     → IsScheduledRun part hosts kept program run → IsScheduledRun whole hosts kept program run
 later_scheduled part whole hosts kept program run later of = (of.0, later_input part whole run.settings.input of.0 later of.1, of.2)
 
-later_native : (part whole : FilesSeen) (hosts : HostTable) (kept : RunRecord) (program : Program) (run : NativeRun) → IsLaterPart part whole
-    → IsNativeRun part hosts kept program run → IsNativeRun whole hosts kept program run
-later_native part whole hosts kept program run later of = (of.0, later_input part whole run.settings.input of.0 later of.1, of.2)
+later_native : (part whole : FilesSeen) (hosts : HostTable) (kept : RunRecord) (program : Program) (settings : Settings) → IsLaterPart part whole
+    → IsNativeRun part hosts kept program settings → IsNativeRun whole hosts kept program settings
+later_native part whole hosts kept program settings later of = (of.0, later_input part whole settings.input of.0 later of.1, of.2)
 
 of_file : (P Q : Text → Type 0) (file : Option Text) → ((name : Text) → P name → Q name) → IsSomeAnd file P → IsSomeAnd file Q
 of_file P Q None implies of = absurd of
 of_file P Q (Some name) implies of = implies name of
 
+later_serves : (part whole : FilesSeen) (hosts : HostTable) (kept : RunRecord) (found : Outcome) (program : Program) (job : Job) → IsLaterPart part whole
+    → Serves part hosts kept found program job → Serves whole hosts kept found program job
+later_serves part whole hosts kept found program (Check file) later serves = serves
+later_serves part whole hosts kept found program (Instrument file) later serves = serves
+later_serves part whole hosts kept found program (Replay run) later serves =
+    (serves.0, later_scheduled part whole hosts kept program run later serves.1)
+later_serves part whole hosts kept found program (Run run) later serves =
+    (serves.0, later_native part whole hosts kept program run.settings later serves.1)
+later_serves part whole hosts kept found program (Load run) later serves =
+    (serves.0, later_native part whole hosts kept program default_settings later serves.1)
+later_serves part whole hosts kept found program (Races run) later serves =
+    (later_scheduled part whole hosts kept program run later serves.0, serves.1)
+later_serves part whole hosts kept found program (Record run) later serves = absurd serves
+later_serves part whole hosts kept found program (Recheck check) later serves = absurd serves
+later_serves part whole hosts kept found program (Hush run) later serves = absurd serves
+later_serves part whole hosts kept found program (Explain run) later serves =
+    (later_scheduled part whole hosts kept program run later serves.0, serves.1)
+
 later_finds : (part whole : FilesSeen) (hosts : HostTable) (kept : RunRecord) (found : Outcome) (job : Job) (program : Program) → IsLaterPart part whole
     → FindsIn part hosts kept found job program → FindsIn whole hosts kept found job program
-later_finds part whole hosts kept Usage job program later finds = absurd finds
-later_finds part whole hosts kept (FileFault role.Program) job program later finds = absurd finds
+later_finds part whole hosts kept Usage job program later finds = (finds.0, later_serves part whole hosts kept Usage program job later finds.1)
+later_finds part whole hosts kept (FileFault role.Program) job program later finds = (finds.0, later_serves part whole hosts kept (FileFault role.Program) program job later finds.1)
 later_finds part whole hosts kept (FileFault role.Input) job program later finds = (
   finds.0,
   of_file (λ file. Failed part file) (λ file. Failed whole file) (input_in job) (λ file failed. later_failed part whole file later failed) finds.1,
   finds.2,
 )
-later_finds part whole hosts kept (TooLong role.Program) job program later finds = absurd finds
+later_finds part whole hosts kept (TooLong role.Program) job program later finds = (finds.0, later_serves part whole hosts kept (TooLong role.Program) program job later finds.1)
 later_finds part whole hosts kept (TooLong role.Input) job program later finds = (
   finds.0,
   of_file (λ file. WasTooLong part file most_bytes) (λ file. WasTooLong whole file most_bytes) (input_in job)
       (λ file long. later_too_long part whole file later long) finds.1,
   finds.2,
 )
-later_finds part whole hosts kept (NotRead read_fault) job program later finds = absurd finds
-later_finds part whole hosts kept (NotVerified rule at) job program later finds = finds
-later_finds part whole hosts kept (Accepted functions instructions) (Check file) program later finds = finds
-later_finds part whole hosts kept (Accepted functions instructions) (Instrument file) program later finds = absurd finds
-later_finds part whole hosts kept (Accepted functions instructions) (Replay run) program later finds = absurd finds
-later_finds part whole hosts kept (Accepted functions instructions) (Run run) program later finds = absurd finds
-later_finds part whole hosts kept (Accepted functions instructions) (Races run) program later finds = absurd finds
-later_finds part whole hosts kept (Accepted functions instructions) (Explain run) program later finds = absurd finds
-later_finds part whole hosts kept (Instrumented target) (Check file) program later finds = absurd finds
-later_finds part whole hosts kept (Instrumented target) (Instrument file) program later finds = finds
-later_finds part whole hosts kept (Instrumented target) (Replay run) program later finds = absurd finds
-later_finds part whole hosts kept (Instrumented target) (Run run) program later finds = absurd finds
-later_finds part whole hosts kept (Instrumented target) (Races run) program later finds = absurd finds
-later_finds part whole hosts kept (Instrumented target) (Explain run) program later finds = absurd finds
-later_finds part whole hosts kept Ran (Check file) program later finds = absurd finds
-later_finds part whole hosts kept Ran (Instrument file) program later finds = absurd finds
-later_finds part whole hosts kept Ran (Replay run) program later finds = (finds.0, later_scheduled part whole hosts kept program run later finds.1)
-later_finds part whole hosts kept Ran (Run run) program later finds = (finds.0, later_native part whole hosts kept program run later finds.1)
-later_finds part whole hosts kept Ran (Races run) program later finds = absurd finds
-later_finds part whole hosts kept Ran (Explain run) program later finds = absurd finds
-later_finds part whole hosts kept (Raced races) (Check file) program later finds = absurd finds
-later_finds part whole hosts kept (Raced races) (Instrument file) program later finds = absurd finds
-later_finds part whole hosts kept (Raced races) (Replay run) program later finds = absurd finds
-later_finds part whole hosts kept (Raced races) (Run run) program later finds = absurd finds
-later_finds part whole hosts kept (Raced races) (Races run) program later finds =
-    (finds.0, later_scheduled part whole hosts kept program run later finds.1, finds.2)
-later_finds part whole hosts kept (Raced races) (Explain run) program later finds = absurd finds
-later_finds part whole hosts kept (Traced violations) (Check file) program later finds = absurd finds
-later_finds part whole hosts kept (Traced violations) (Instrument file) program later finds = absurd finds
-later_finds part whole hosts kept (Traced violations) (Replay run) program later finds = absurd finds
-later_finds part whole hosts kept (Traced violations) (Run run) program later finds = absurd finds
-later_finds part whole hosts kept (Traced violations) (Races run) program later finds = absurd finds
-later_finds part whole hosts kept (Traced violations) (Explain run) program later finds =
-    (finds.0, later_scheduled part whole hosts kept program run later finds.1, finds.2)
+later_finds part whole hosts kept (NotRead read_fault) job program later finds = (finds.0, later_serves part whole hosts kept (NotRead read_fault) program job later finds.1)
+later_finds part whole hosts kept (NotVerified rule at) job program later finds = (finds.0, later_serves part whole hosts kept (NotVerified rule at) program job later finds.1)
+later_finds part whole hosts kept (Accepted functions instructions) job program later finds = (finds.0, later_serves part whole hosts kept (Accepted functions instructions) program job later finds.1)
+later_finds part whole hosts kept (Instrumented target) job program later finds = (finds.0, later_serves part whole hosts kept (Instrumented target) program job later finds.1)
+later_finds part whole hosts kept Ran job program later finds = (finds.0, later_serves part whole hosts kept Ran program job later finds.1)
+later_finds part whole hosts kept (Loaded seed size) job program later finds = (finds.0, later_serves part whole hosts kept (Loaded seed size) program job later finds.1)
+later_finds part whole hosts kept (Raced races) job program later finds = (finds.0, later_serves part whole hosts kept (Raced races) program job later finds.1)
+later_finds part whole hosts kept (Traced violations) job program later finds = (finds.0, later_serves part whole hosts kept (Traced violations) program job later finds.1)
 
-found_in_text : (files : FilesSeen) (hosts : HostTable) (asked : Option Job) (kept : RunRecord) (found : Outcome) (job : Job) (program : Program) → OfJob files hosts asked kept found
-    → FindsIn files hosts kept found job program → HasCause files hosts asked kept found
-found_in_text files hosts asked kept Usage job program of finds = absurd finds
-found_in_text files hosts asked kept (FileFault role.Program) job program of finds = absurd finds
-found_in_text files hosts asked kept (FileFault role.Input) job program of finds = of
-found_in_text files hosts asked kept (TooLong role.Program) job program of finds = absurd finds
-found_in_text files hosts asked kept (TooLong role.Input) job program of finds = of
-found_in_text files hosts asked kept (NotRead read_fault) job program of finds = absurd finds
-found_in_text files hosts asked kept (NotVerified rule at) job program of finds = of
-found_in_text files hosts asked kept (Accepted functions instructions) job program of finds = of
-found_in_text files hosts asked kept (Instrumented target) job program of finds = of
-found_in_text files hosts asked kept Ran job program of finds = of
-found_in_text files hosts asked kept (Raced races) job program of finds = of
-found_in_text files hosts asked kept (Traced violations) job program of finds = of
+-- what a job finds where it is served is no reason why it isn't
+abbrev IsServing : Outcome → Type 0
+IsServing Usage = ⊥
+IsServing (FileFault of) = ⊥
+IsServing (TooLong of) = ⊥
+IsServing (NotRead read_fault) = ⊥
+IsServing (NotVerified rule at) = ⊥
+IsServing found = Unit {0}
+
+serving : (files : FilesSeen) (hosts : HostTable) (kept : RunRecord) (found : Outcome) (program : Program) (job : Job) → Serves files hosts kept found program job
+    → IsServing found
+serving files hosts kept found program (Check file) serves = subst IsServing (sym serves.0) tt
+serving files hosts kept found program (Instrument file) serves = subst IsServing (sym serves.0) tt
+serving files hosts kept found program (Replay run) serves = subst IsServing (sym serves.0) tt
+serving files hosts kept found program (Run run) serves = subst IsServing (sym serves.0) tt
+serving files hosts kept found program (Load run) serves = subst IsServing (sym serves.0) tt
+serving files hosts kept found program (Races run) serves = subst IsServing (sym serves.1.1) tt
+serving files hosts kept found program (Record run) serves = absurd serves
+serving files hosts kept found program (Recheck check) serves = absurd serves
+serving files hosts kept found program (Hush run) serves = absurd serves
+serving files hosts kept found program (Explain run) serves = subst IsServing (sym serves.1.1) tt
+
+-- what a job finds in its program is a cause
+caused : (files : FilesSeen) (hosts : HostTable) (asked : Option Job) (kept : RunRecord) (found : Outcome) → OfJob files asked (FindsIn files hosts kept found)
+    → HasCause files hosts asked kept found
+caused files hosts asked kept Usage of = absurd (serving files hosts kept Usage of.program of.job of.holds.1)
+caused files hosts asked kept (FileFault role.Program) of = absurd (serving files hosts kept (FileFault role.Program) of.program of.job of.holds.1)
+caused files hosts asked kept (FileFault role.Input) of = of
+caused files hosts asked kept (TooLong role.Program) of = absurd (serving files hosts kept (TooLong role.Program) of.program of.job of.holds.1)
+caused files hosts asked kept (TooLong role.Input) of = of
+caused files hosts asked kept (NotRead read_fault) of = absurd (serving files hosts kept (NotRead read_fault) of.program of.job of.holds.1)
+caused files hosts asked kept (NotVerified rule at) of = absurd (serving files hosts kept (NotVerified rule at) of.program of.job of.holds.1)
+caused files hosts asked kept (Accepted functions instructions) of = of
+caused files hosts asked kept (Instrumented target) of = of
+caused files hosts asked kept Ran of = of
+caused files hosts asked kept (Loaded seed size) of = of
+caused files hosts asked kept (Raced races) of = of
+caused files hosts asked kept (Traced violations) of = of
+
+-- what was loaded is the job's program
+has_program : (first whole : FilesSeen) (hosts : HostTable) (origin : Origin) (verified : Verified) → ((file : Text) → first.content file ≡ whole.content file)
+    → IsLoaded first hosts origin verified → HasProgram (λ file text. WasRead whole file most_bytes text) origin verified.program
+has_program first whole hosts (InFile file) verified same loaded =
+    (loaded.0, same_read first whole file loaded.0 (same file) loaded.1, loaded.2.0)
+has_program first whole hosts (Generated run) verified same loaded = loaded.0
+
+pub loaded_hosts : (files : FilesSeen) (hosts : HostTable) (origin : Origin) (verified : Verified) → IsLoaded files hosts origin verified → verified.hosts ≡ hosts
+loaded_hosts files hosts (InFile file) verified loaded = loaded.2.1
+loaded_hosts files hosts (Generated run) verified loaded = loaded.1
 
 -- what the rest of a call finds in the program that was loaded is a cause
 pub served : (first part whole : FilesSeen) (hosts : HostTable) (asked : Option Job) (kept : RunRecord) (result : Result Outcome NoMemory) (job : Job) (verified : Verified)
-    → ((file : Text) → first.content file ≡ whole.content file) → IsLaterPart part whole → asked ≡ Some job → IsLoaded first hosts (file_in job) verified
+    → ((file : Text) → first.content file ≡ whole.content file) → IsLaterPart part whole → asked ≡ Some job → IsLoaded first hosts (origin_of job) verified
     → MatchResult result (λ found. FindsIn part hosts kept found job verified.program) (λ _. kept ≡ empty_record)
     → MatchResult result (HasCause whole hosts asked kept) (λ _. kept ≡ empty_record)
 served first part whole hosts asked kept (Err e) job verified same later is loaded finds = finds
 served first part whole hosts asked kept (Ok found) job verified same later is loaded finds =
-    let there = later_finds part whole hosts kept found job verified.program later finds in
-    found_in_text whole hosts asked kept found job verified.program (record {
+    caused whole hosts asked kept found (record {
       job = job;
       is = is;
-      text = loaded.0;
-      read = same_read first whole (file_in job) loaded.0 (same (file_in job)) loaded.1;
-      holds = record { program = verified.program; reads = loaded.2.0; holds = there };
-    }) there
+      program = verified.program;
+      has = has_program first whole hosts (origin_of job) verified same loaded;
+      holds = later_finds part whole hosts kept found job verified.program later finds;
+    })
 
 -- the value of a result, and its error
 pub ok_of : {A E : Type 0} (P : A → Type 0) (Q : E → Type 0) (result : Result A E) (value : A) → result ≡ Ok value → MatchResult result P Q → P value
@@ -202,21 +230,25 @@ err_of P Q (Err e) error is holds = let same : e ≡ error = cc in subst Q same 
 pub alone : (asked : Option Job) (job : Job) → asked ≡ Some job → native_in job ≡ None → on_one_thread asked ≡ Some job
 alone asked job is none = ap on_one_thread is ∙ (rw none refl)
 
-pub not_alone : (asked : Option Job) (job : Job) (run : NativeRun) → asked ≡ Some job → native_in job ≡ Some run → on_one_thread asked ≡ None
-not_alone asked job run is some = ap on_one_thread is ∙ (rw some refl)
+pub not_alone : (asked : Option Job) (job native : Job) → asked ≡ Some job → native_in job ≡ Some native → on_one_thread asked ≡ None
+not_alone asked job native is some = ap on_one_thread is ∙ (rw some refl)
 
--- a job that is a run on native threads
-native_job : (job : Job) (run : NativeRun) → native_in job ≡ Some run → job ≡ Run run
-native_job (Check file) run is = absurd cc
-native_job (Instrument file) run is = absurd cc
-native_job (Replay r) run is = absurd cc
-native_job (Races r) run is = absurd cc
-native_job (Explain r) run is = absurd cc
-native_job (Run r) run is = let same : r ≡ run = cc in ap Run same
+-- a job that is one for native threads
+native_is : (job native : Job) → native_in job ≡ Some native → job ≡ native
+native_is (Check file) native is = absurd cc
+native_is (Instrument file) native is = absurd cc
+native_is (Replay run) native is = absurd cc
+native_is (Run run) native is = cc
+native_is (Load run) native is = cc
+native_is (Races run) native is = absurd cc
+native_is (Record run) native is = cc
+native_is (Recheck check) native is = absurd cc
+native_is (Hush run) native is = cc
+native_is (Explain run) native is = absurd cc
 
-pub asked_run : (asked : Option Job) (job : Job) (run : Option RustRun) → asked ≡ Some job → HasLimits job → option_map native_meant run ≡ native_in job
-    → IsAskedRun asked run
-asked_run asked job None is limits none = alone asked job is (sym none) ∙ sym is
-asked_run asked job (Some run) is limits some =
-    let same = native_job job (native_meant run) (sym some) in
-    (is ∙ ap (λ (j : Job). Some j) same, subst HasLimits same limits)
+pub asked_job : (asked : Option Job) (job : Job) (native : Option NativeJob) → asked ≡ Some job → HasLimits job → HasSize (origin_of job)
+    → option_map native_job_meant native ≡ native_in job → IsAskedJob asked native
+asked_job asked job None is limits size none = alone asked job is (sym none) ∙ sym is
+asked_job asked job (Some native) is limits size some =
+    let same = native_is job (native_job_meant native) (sym some) in
+    (is ∙ ap (λ (j : Job). Some j) same, subst HasLimits same limits, subst (λ (j : Job). HasSize (origin_of j)) same size)

@@ -1,9 +1,10 @@
--- The limits of a run that the words ask for are in their ranges.
+-- The limits of a run that the words ask for, and the size of a generated program, are in their ranges.
 use Rattle.std.proofs.Common.{◌≡◌, List, Option, Some, None, IfSome, arith}
 use Rattle.command_words.specs.Jobs.{Job, Settings, settings_in, job_of}
-use Rattle.command_words.proofs.Ranges.{AreWithin, limits_in_range}
+use Rattle.command_words.specs.Jobs.Job.{Check, Instrument, Replay, Run, Load, Races, Record, Recheck, Hush, Explain}
+use Rattle.command_words.proofs.Ranges.{AreWithin, limits_in_range, size_in_range}
 use Rattle.core_model.specs.Running.{AreLimits}
-use Rattle.bsan.specs.Words.{Text, HasLimits}
+use Rattle.bsan.specs.Words.{Text, HasLimits, HasSize, origin_of}
 
 of_settings : (settings : Option Settings) → AreWithin settings → IfSome settings (λ s. AreLimits s.limits)
 of_settings None within = tt
@@ -18,3 +19,15 @@ of_settings (Some settings) within = record {
 
 pub has_limits : (words : List Text) (job : Job) → job_of words ≡ Some job → HasLimits job
 has_limits words job asked = of_settings (settings_in job) (limits_in_range words job asked)
+
+pub has_size : (words : List Text) (job : Job) → job_of words ≡ Some job → HasSize (origin_of job)
+has_size words (Check file) asked = tt
+has_size words (Instrument file) asked = tt
+has_size words (Replay run) asked = tt
+has_size words (Run run) asked = tt
+has_size words (Load run) asked = size_in_range words run asked
+has_size words (Races run) asked = tt
+has_size words (Record run) asked = tt
+has_size words (Recheck check) asked = tt
+has_size words (Hush run) asked = tt
+has_size words (Explain run) asked = tt

@@ -12,15 +12,16 @@ use Rattle.ir_rules.specs.Rules.{IsAccepted}
 use Rattle.race_check.specs.Text.{race_text}
 use Rattle.race_check.specs.declared.race.Race.{Race}
 use Rattle.report.specs.Report.{status_of, any_end, is_no_memory, is_limit, is_trap}
-use Rattle.bsan.specs.Words.{Text, input_in}
+use Rattle.bsan.specs.Words.{Text, origin_of, input_in}
 use Rattle.bsan.specs.Seen.{FilesSeen, SinkSeen, Failed, WasTooLong, IsFault, Puts}
 use Rattle.bsan.specs.Seen.Puts.{whole, failed, no_memory}
-use Rattle.bsan.specs.Answer.{OfText, OfProgram, OfJob, HasCause, Answers, text_for, status_for}
+use Rattle.bsan.specs.Answer.{OfText, OfProgram, OfJob, FindsIn, HasCause, Answers, text_for, status_for}
 use Rattle.bsan.specs.Causes.{IsCutShort, IsRefused, IsBrokenFirst, IsUnread, HasUnreadInput, ReadCause, TellsRun, RanWhole, RanWith, RacedWhole, AcceptedWhole, InstrumentedWhole, RunCause, PutNothing, MemoryCause, LeavesNone, has_violations}
+use Rattle.bsan.proofs.Found.{of_origin}
 use Rattle.bsan.proofs.Reportable.{left}
 use Rattle.bsan.specs.declared.outcome.Role.TheVariants as role
 use Rattle.bsan.specs.declared.outcome.Outcome.{Outcome}
-use Rattle.bsan.specs.declared.outcome.Outcome.TheVariants.{Usage, FileFault, TooLong, NotRead, NotVerified, Accepted, Instrumented, Ran, Raced, Traced}
+use Rattle.bsan.specs.declared.outcome.Outcome.TheVariants.{Usage, FileFault, TooLong, NotRead, NotVerified, Accepted, Instrumented, Ran, Loaded, Raced, Traced}
 
 -- ---- the status of a record, by the ends of its threads and by its violations
 abbrev ranked : Bool → Bool → Bool → Bool → ℕ
@@ -106,6 +107,7 @@ told_as (NotVerified rule at) kept n tells is = absurd tells
 told_as (Accepted functions instructions) kept n tells is = absurd tells
 told_as (Instrumented target) kept n tells is = absurd tells
 told_as Ran kept n tells is = inl is
+told_as (Loaded seed size) kept n tells is = inl is
 told_as (Traced violations) kept n tells is = inl is
 told_as (Raced races) kept n tells is = elim (raced_as n (status_of kept) (length races) is) [ inl own ↦ inl own | inr ten ↦ inr ten.ten ]
 
@@ -133,12 +135,12 @@ uncut_low n low (inr is) = omega (arith, low, is)
 
 -- 3: the text was refused
 pub unread : (files : FilesSeen) (hosts : HostTable) (sink : SinkSeen) (asked : Option Job) (kept : RunRecord) (answer : ℕ)
-    → Answers files hosts sink asked kept answer → answer ≡ 3 → OfText files asked (λ job text. IsRefused text)
+    → Answers files hosts sink asked kept answer → answer ≡ 3 → OfText files asked IsRefused
 unread files hosts sink asked kept answer (inr out) is = absurd (let nine = out.status in omega arith)
 unread files hosts sink asked kept answer (inl told) is =
     by_found told.found told.cause (put_whole sink _ (status_for told.found kept) answer 3 told.puts is (uncut_low 3 (omega arith))).0
   where
-    by_found : (found : Outcome) → HasCause files hosts asked kept found → 3 ≡ status_for found kept → OfText files asked (λ job text. IsRefused text)
+    by_found : (found : Outcome) → HasCause files hosts asked kept found → 3 ≡ status_for found kept → OfText files asked IsRefused
     by_found Usage cause e = absurd (omega (arith, e))
     by_found (FileFault of) cause e = absurd (omega (arith, e))
     by_found (TooLong of) cause e = absurd (omega (arith, e))
@@ -153,32 +155,34 @@ unread files hosts sink asked kept answer (inl told) is =
     by_found (Accepted functions instructions) cause e = absurd (omega (arith, e))
     by_found (Instrumented target) cause e = absurd (omega (arith, e))
     by_found Ran cause e = absurd (not_told Ran kept 3 tt e (λ ten. omega (arith, ten)) refl)
+    by_found (Loaded seed size) cause e = absurd (not_told (Loaded seed size) kept 3 tt e (λ ten. omega (arith, ten)) refl)
     by_found (Raced races) cause e = absurd (not_told (Raced races) kept 3 tt e (λ ten. omega (arith, ten)) refl)
     by_found (Traced violations) cause e = absurd (not_told (Traced violations) kept 3 tt e (λ ten. omega (arith, ten)) refl)
 
 -- 4: a rule is broken in the program
 pub unverified : (files : FilesSeen) (hosts : HostTable) (sink : SinkSeen) (asked : Option Job) (kept : RunRecord) (answer : ℕ)
-    → Answers files hosts sink asked kept answer → answer ≡ 4 → OfText files asked (λ job text. OfProgram (IsBrokenFirst hosts) text)
+    → Answers files hosts sink asked kept answer → answer ≡ 4 → OfText files asked (OfProgram (IsBrokenFirst hosts))
 unverified files hosts sink asked kept answer (inr out) is = absurd (let nine = out.status in omega arith)
 unverified files hosts sink asked kept answer (inl told) is =
     by_found told.found told.cause (put_whole sink _ (status_for told.found kept) answer 4 told.puts is (uncut_low 4 (omega arith))).0
   where
     by_found : (found : Outcome) → HasCause files hosts asked kept found → 4 ≡ status_for found kept
-        → OfText files asked (λ job text. OfProgram (IsBrokenFirst hosts) text)
+        → OfText files asked (OfProgram (IsBrokenFirst hosts))
     by_found Usage cause e = absurd (omega (arith, e))
     by_found (FileFault of) cause e = absurd (omega (arith, e))
     by_found (TooLong of) cause e = absurd (omega (arith, e))
     by_found (NotRead read_fault) cause e = absurd (omega (arith, e))
     by_found (NotVerified rule at) cause e = record {
-      job = cause.job;
-      is = cause.is;
-      text = cause.text;
-      read = cause.read;
-      holds = record { program = cause.holds.program; reads = cause.holds.reads; holds = (rule, at, cause.holds.holds.0) };
+      job = cause.0.job;
+      is = cause.0.is;
+      text = cause.0.text;
+      read = cause.0.read;
+      holds = record { program = cause.0.holds.program; reads = cause.0.holds.reads; holds = (rule, at, cause.0.holds.holds) };
     }
     by_found (Accepted functions instructions) cause e = absurd (omega (arith, e))
     by_found (Instrumented target) cause e = absurd (omega (arith, e))
     by_found Ran cause e = absurd (not_told Ran kept 4 tt e (λ ten. omega (arith, ten)) refl)
+    by_found (Loaded seed size) cause e = absurd (not_told (Loaded seed size) kept 4 tt e (λ ten. omega (arith, ten)) refl)
     by_found (Raced races) cause e = absurd (not_told (Raced races) kept 4 tt e (λ ten. omega (arith, ten)) refl)
     by_found (Traced violations) cause e = absurd (not_told (Traced violations) kept 4 tt e (λ ten. omega (arith, ten)) refl)
 
@@ -194,32 +198,36 @@ read_cause files hosts sink asked kept answer (inr out) is = absurd (let nine = 
 read_cause files hosts sink asked kept answer (inl told) is =
     by_found told.found told.cause (put_whole sink _ (status_for told.found kept) answer 7 told.puts is (uncut_low 7 (omega arith))).0
   where
-    with_input : (found : Outcome) (of : OfJob files hosts asked kept found) → IsAccepted of.holds.program hosts
-        → IsSomeAnd (input_in of.job) (λ file. IsFault files file) → OfText files asked (λ job text. OfProgram (HasUnreadInput files hosts job) text)
-    with_input found of accepted unread = record {
-      job = of.job;
-      is = of.is;
-      text = of.text;
-      read = of.read;
-      holds = record { program = of.holds.program; reads = of.holds.reads; holds = record { accepted = accepted; unread = unread } };
-    }
+    with_input : (found : Outcome) (of : OfJob files asked (FindsIn files hosts kept found)) → IsAccepted of.program hosts
+        → IsSomeAnd (input_in of.job) (λ file. IsFault files file) → OfJob files asked (HasUnreadInput files hosts)
+    with_input found of accepted unread =
+        record { job = of.job; is = of.is; program = of.program; has = of.has; holds = record { accepted = accepted; unread = unread } }
 
     by_found : (found : Outcome) → HasCause files hosts asked kept found → 7 ≡ status_for found kept
-        → IsUnread files asked ⊎ OfText files asked (λ job text. OfProgram (HasUnreadInput files hosts job) text)
+        → IsUnread files asked ⊎ OfJob files asked (HasUnreadInput files hosts)
     by_found Usage cause e = absurd (omega (arith, e))
-    by_found (FileFault role.Program) cause e = inl (record { job = cause.0.job; is = cause.0.is; holds = inl cause.0.holds })
+    by_found (FileFault role.Program) cause e = inl (record {
+      job = cause.0.job;
+      is = cause.0.is;
+      holds = of_origin (λ file. Failed files file) (λ file. IsFault files file) (origin_of cause.0.job) (λ file failed. inl failed) cause.0.holds;
+    })
     by_found (FileFault role.Input) cause e =
-        inr (with_input (FileFault role.Input) cause cause.holds.holds.0
-        (of_input (λ file. Failed files file) (λ file. IsFault files file) (input_in cause.job) (λ file failed. inl failed) cause.holds.holds.1))
-    by_found (TooLong role.Program) cause e = inl (record { job = cause.0.job; is = cause.0.is; holds = inr cause.0.holds })
+        inr (with_input (FileFault role.Input) cause cause.holds.0
+        (of_input (λ file. Failed files file) (λ file. IsFault files file) (input_in cause.job) (λ file failed. inl failed) cause.holds.1))
+    by_found (TooLong role.Program) cause e = inl (record {
+      job = cause.0.job;
+      is = cause.0.is;
+      holds = of_origin (λ file. WasTooLong files file most_bytes) (λ file. IsFault files file) (origin_of cause.0.job) (λ file long. inr long) cause.0.holds;
+    })
     by_found (TooLong role.Input) cause e =
-        inr (with_input (TooLong role.Input) cause cause.holds.holds.0
-        (of_input (λ file. WasTooLong files file most_bytes) (λ file. IsFault files file) (input_in cause.job) (λ file long. inr long) cause.holds.holds.1))
+        inr (with_input (TooLong role.Input) cause cause.holds.0
+        (of_input (λ file. WasTooLong files file most_bytes) (λ file. IsFault files file) (input_in cause.job) (λ file long. inr long) cause.holds.1))
     by_found (NotRead read_fault) cause e = absurd (omega (arith, e))
     by_found (NotVerified rule at) cause e = absurd (omega (arith, e))
     by_found (Accepted functions instructions) cause e = absurd (omega (arith, e))
     by_found (Instrumented target) cause e = absurd (omega (arith, e))
     by_found Ran cause e = absurd (not_told Ran kept 7 tt e (λ ten. omega (arith, ten)) refl)
+    by_found (Loaded seed size) cause e = absurd (not_told (Loaded seed size) kept 7 tt e (λ ten. omega (arith, ten)) refl)
     by_found (Raced races) cause e = absurd (not_told (Raced races) kept 7 tt e (λ ten. omega (arith, ten)) refl)
     by_found (Traced violations) cause e = absurd (not_told (Traced violations) kept 7 tt e (λ ten. omega (arith, ten)) refl)
 
@@ -239,14 +247,15 @@ no_record files hosts sink asked kept answer (inl told) is = by_status is
         → kept ≡ empty_record
     by_found n Usage cause e low other unlike = cause.1
     by_found n (FileFault role.Program) cause e low other unlike = cause.1
-    by_found n (FileFault role.Input) cause e low other unlike = cause.holds.holds.2
+    by_found n (FileFault role.Input) cause e low other unlike = cause.holds.2
     by_found n (TooLong role.Program) cause e low other unlike = cause.1
-    by_found n (TooLong role.Input) cause e low other unlike = cause.holds.holds.2
+    by_found n (TooLong role.Input) cause e low other unlike = cause.holds.2
     by_found n (NotRead read_fault) cause e low other unlike = cause.1
-    by_found n (NotVerified rule at) cause e low other unlike = cause.holds.holds.1
+    by_found n (NotVerified rule at) cause e low other unlike = cause.1
     by_found n (Accepted functions instructions) cause e low other unlike = absurd (low e)
     by_found n (Instrumented target) cause e low other unlike = absurd (low e)
     by_found n Ran cause e low other unlike = absurd (not_told Ran kept n tt e other unlike)
+    by_found n (Loaded seed size) cause e low other unlike = absurd (not_told (Loaded seed size) kept n tt e other unlike)
     by_found n (Raced races) cause e low other unlike = absurd (not_told (Raced races) kept n tt e other unlike)
     by_found n (Traced violations) cause e low other unlike = absurd (not_told (Traced violations) kept n tt e other unlike)
 
@@ -264,7 +273,7 @@ no_record files hosts sink asked kept answer (inl told) is = by_status is
 -- ---- statuses of runs
 -- a run, of which the whole text was put
 whole_run : (files : FilesSeen) (hosts : HostTable) (sink : SinkSeen) (asked : Option Job) (kept : RunRecord) (answer : ℕ) (found : Outcome)
-    → TellsRun found → OfJob files hosts asked kept found → answer ≡ status_for found kept → Appends sink.taken_before sink.taken_after (text_for found kept)
+    → TellsRun found → OfJob files asked (FindsIn files hosts kept found) → answer ≡ status_for found kept → Appends sink.taken_before sink.taken_after (text_for found kept)
     → RanWhole files hosts sink asked kept answer
 whole_run files hosts sink asked kept answer found tells cause status text =
     record { found = found; tells = tells; cause = cause; status = status; text = text }
@@ -281,7 +290,7 @@ run_with files hosts sink asked kept answer n holds (inl told) is small some run
     other : (status : ℕ) → n ≡ status → is_run_status status ≡ false → ⊥
     other status e unlike = true≢false (sym run ∙ ap is_run_status e ∙ unlike)
 
-    a_run : (found : Outcome) → TellsRun found → OfJob files hosts asked kept found → n ≡ status_for found kept
+    a_run : (found : Outcome) → TellsRun found → OfJob files asked (FindsIn files hosts kept found) → n ≡ status_for found kept
         → Appends sink.taken_before sink.taken_after (text_for found kept) → RanWith files hosts sink asked kept answer holds
     a_run found tells cause e text = record {
       run = whole_run files hosts sink asked kept answer found tells cause (is ∙ e) text;
@@ -298,6 +307,7 @@ run_with files hosts sink asked kept answer n holds (inl told) is small some run
     by_found (Accepted functions instructions) cause e text = absurd (some e)
     by_found (Instrumented target) cause e text = absurd (some e)
     by_found Ran cause e text = a_run Ran tt cause e text
+    by_found (Loaded seed size) cause e text = a_run (Loaded seed size) tt cause e text
     by_found (Raced races) cause e text = a_run (Raced races) tt cause e text
     by_found (Traced violations) cause e text = a_run (Traced violations) tt cause e text
 
@@ -311,7 +321,7 @@ clean files hosts sink asked kept answer (inl told) is =
     let put = put_whole sink (text_for told.found kept) (status_for told.found kept) answer 0 told.puts is (uncut_low 0 (omega arith)) in
     by_found told.found told.cause put.0 put.1
   where
-    a_run : (found : Outcome) → TellsRun found → OfJob files hosts asked kept found → 0 ≡ status_for found kept
+    a_run : (found : Outcome) → TellsRun found → OfJob files asked (FindsIn files hosts kept found) → 0 ≡ status_for found kept
         → Appends sink.taken_before sink.taken_after (text_for found kept) → RanWith files hosts sink asked kept answer (not (has_violations kept))
     a_run found tells cause e text = record {
       run = whole_run files hosts sink asked kept answer found tells cause (is ∙ e) text;
@@ -332,6 +342,7 @@ clean files hosts sink asked kept answer (inl told) is =
         inr (inl (record { functions = functions; instructions = instructions; cause = cause; text = text }))
     by_found (Instrumented target) cause e text = inr (inr (record { target = target; cause = cause; text = text }))
     by_found Ran cause e text = inl (a_run Ran tt cause e text)
+    by_found (Loaded seed size) cause e text = inl (a_run (Loaded seed size) tt cause e text)
     by_found (Raced races) cause e text = inl (a_run (Raced races) tt cause e text)
     by_found (Traced violations) cause e text = inl (a_run (Traced violations) tt cause e text)
 
@@ -350,7 +361,7 @@ raced files hosts sink asked kept answer (inl told) is =
     not_own : 10 ≡ status_of kept → ⊥
     not_own own = true≢false (sym (run_status kept) ∙ ap is_run_status (sym own))
 
-    with_races : (races : List Race) → OfJob files hosts asked kept (Raced races) → (10 ≡ status_of kept) ⊎ IsTen 10 (status_of kept) (length races)
+    with_races : (races : List Race) → OfJob files asked (FindsIn files hosts kept (Raced races)) → (10 ≡ status_of kept) ⊎ IsTen 10 (status_of kept) (length races)
         → Appends sink.taken_before sink.taken_after (race_text kept races) → RacedWhole files hosts sink asked kept
     with_races races cause (inl own) text = absurd (not_own own)
     with_races races cause (inr ten) text = record {
@@ -371,6 +382,7 @@ raced files hosts sink asked kept answer (inl told) is =
     by_found (Accepted functions instructions) cause e text = absurd (omega (arith, e))
     by_found (Instrumented target) cause e text = absurd (omega (arith, e))
     by_found Ran cause e text = absurd (not_own e)
+    by_found (Loaded seed size) cause e text = absurd (not_own e)
     by_found (Raced races) cause e text = with_races races cause (raced_as 10 (status_of kept) (length races) e) text
     by_found (Traced violations) cause e text = absurd (not_own e)
 
@@ -394,7 +406,7 @@ pub memory_cause : (files : FilesSeen) (hosts : HostTable) (sink : SinkSeen) (as
 memory_cause files hosts sink asked kept answer (inr out) is = inl (record { nothing = out.nothing; record_kept = out.record_kept })
 memory_cause files hosts sink asked kept answer (inl told) is = by_puts told.puts
   where
-    a_run : (found : Outcome) → TellsRun found → OfJob files hosts asked kept found → answer ≡ status_for found kept
+    a_run : (found : Outcome) → TellsRun found → OfJob files asked (FindsIn files hosts kept found) → answer ≡ status_for found kept
         → Appends sink.taken_before sink.taken_after (text_for found kept) → RanWith files hosts sink asked kept answer (any_end is_no_memory kept)
     a_run found tells cause e text = record {
       run = whole_run files hosts sink asked kept answer found tells cause e text;
@@ -412,6 +424,7 @@ memory_cause files hosts sink asked kept answer (inl told) is = by_puts told.put
     by_found (Accepted functions instructions) cause e text = absurd (omega (arith, e, is))
     by_found (Instrumented target) cause e text = absurd (omega (arith, e, is))
     by_found Ran cause e text = a_run Ran tt cause e text
+    by_found (Loaded seed size) cause e text = a_run (Loaded seed size) tt cause e text
     by_found (Raced races) cause e text = a_run (Raced races) tt cause e text
     by_found (Traced violations) cause e text = a_run (Traced violations) tt cause e text
 

@@ -2,10 +2,10 @@
 use Rattle.std.specs.Prelude.{◌≡◌, ◌⊎◌, ℕ, List, length, Option, Some, None, IsSomeAnd}
 use Rattle.std.specs.List.{sum_by}
 use Rattle.std.specs.Io.KnownBytes.{Keeps}
-use Rattle.command_words.specs.Jobs.{Job, on_one_thread}
-use Rattle.command_words.specs.Jobs.Job.{Check, Instrument, Replay, Run, Races, Explain}
-use Rattle.command_words.specs.Meaning.{native_meant}
-use Rattle.command_words.specs.declared.jobs.NativeRun.{NativeRun as RustRun}
+use Rattle.command_words.specs.Jobs.{Job, default_settings, on_one_thread}
+use Rattle.command_words.specs.Jobs.Job.{Check, Instrument, Replay, Run, Load, Races, Record, Recheck, Hush, Explain}
+use Rattle.command_words.specs.Meaning.{native_job_meant}
+use Rattle.command_words.specs.declared.jobs.NativeJob.{NativeJob}
 use Rattle.ir_ast.specs.Programs.{function_instructions}
 use Rattle.ir_ast.specs.declared.hosts.HostTable.{HostTable}
 use Rattle.ir_ast.specs.declared.program.Program.{Program}
@@ -25,15 +25,19 @@ use Rattle.history.specs.declared.record.RunRecord.{RunRecord}
 use Rattle.report.specs.Report.{text_of, status_of, IsReportable}
 use Rattle.race_check.specs.Races.{AreFirstRaces}
 use Rattle.race_check.specs.Text.{race_text, race_status}
+use Rattle.race_check.specs.declared.race.Race.{Race}
 use Rattle.explain.specs.Explanations.{AreExplained, AreHistories}
 use Rattle.explain.specs.Text.{explain_text}
-use Rattle.bsan.specs.Words.{Text, file_in, input_in, HasLimits}
+use Rattle.explain.specs.declared.explained.Explained.{Explained}
+use Rattle.workload.specs.Made.{made}
+use Rattle.bsan.specs.Words.{Text, Origin, origin_of, input_in, IsFrom, HasLimits, HasSize}
+use Rattle.bsan.specs.Words.Origin.{InFile, Generated}
 use Rattle.bsan.specs.Seen.{FilesSeen, SinkSeen, Failed, WasTooLong, WasRead, Puts}
-use Rattle.bsan.specs.Lines.{usage_text, file_fault_line, too_long_line, fault_line, rule_line, accepted_line}
+use Rattle.bsan.specs.Lines.{usage_text, file_fault_line, too_long_line, fault_line, rule_line, load_text, accepted_line}
 use Rattle.bsan.specs.Runs.{IsScheduledRun, IsNativeRun, IsOfRun}
 use Rattle.bsan.specs.declared.outcome.Role.TheVariants as role
 use Rattle.bsan.specs.declared.outcome.Outcome.{Outcome}
-use Rattle.bsan.specs.declared.outcome.Outcome.TheVariants.{Usage, FileFault, TooLong, NotRead, NotVerified, Accepted, Instrumented, Ran, Raced, Traced}
+use Rattle.bsan.specs.declared.outcome.Outcome.TheVariants.{Usage, FileFault, TooLong, NotRead, NotVerified, Accepted, Instrumented, Ran, Loaded, Raced, Traced}
 
 -- what was found is what the verifier told
 abbrev pub IsBrokenRule : VerifyFault → Outcome → Type 0
@@ -48,13 +52,11 @@ IsUnreadInput unread.NoMemory found = ⊥
 
 -- what was found is the data races of the record
 abbrev pub IsRaced : RunRecord → Outcome → Type 0
-IsRaced kept (Raced races) = AreFirstRaces (merged kept) races
-IsRaced kept found = ⊥
+IsRaced kept found = (races : List Race) × (found ≡ Raced races) × AreFirstRaces (merged kept) races
 
 -- what was found is what led to its first violations
 abbrev pub IsTraced : RunRecord → Outcome → Type 0
-IsTraced kept (Traced violations) = AreExplained kept violations
-IsTraced kept found = ⊥
+IsTraced kept found = (violations : List Explained) × (found ≡ Traced violations) × AreExplained kept violations
 
 -- the status of what the work found
 abbrev pub status_for : Outcome → RunRecord → ℕ
@@ -66,6 +68,7 @@ status_for (NotVerified rule at) kept = 4
 status_for (Accepted functions instructions) kept = 0
 status_for (Instrumented target) kept = 0
 status_for Ran kept = status_of kept
+status_for (Loaded seed size) kept = status_of kept
 status_for (Raced races) kept = race_status kept races
 status_for (Traced violations) kept = status_of kept
 
@@ -79,29 +82,36 @@ text_for (NotVerified rule at) kept = rule_line rule at
 text_for (Accepted functions instructions) kept = accepted_line functions instructions
 text_for (Instrumented target) kept = target_text target
 text_for Ran kept = text_of kept
+text_for (Loaded seed size) kept = load_text seed size kept
 text_for (Raced races) kept = race_text kept races
 text_for (Traced violations) kept = explain_text kept violations
 
 -- its text can be made
 abbrev pub CanBeTold : Outcome → RunRecord → Type 0
 CanBeTold Ran kept = IsReportable kept
+CanBeTold (Loaded seed size) kept = IsReportable kept
 CanBeTold (Raced races) kept = HasDistinctStamps kept × AreFirstRaces (merged kept) races
 CanBeTold (Traced violations) kept = AreHistories kept.allocs × HasDistinctStamps kept × AreExplained kept violations
 CanBeTold found kept = Unit {0}
 
--- a job is asked for, and P holds of its file
+-- the program of a job: that of a text, where R says which text that of its file is; or the generated one
+abbrev pub HasProgram : (Text → List ℕ → Type 0) → Origin → Program → Type 0
+HasProgram R (InFile file) program = (text : List ℕ) × R file text × IsProgramOf text program
+HasProgram R (Generated run) program = program ≡ made run.seed run.size
+
+-- a job is asked for whose program is from a file, and P holds of that
 pub record OfFile (asked : Option Job) (P : Text → Type 0) : Type 0 where
   pub job : Job
   pub is : asked ≡ Some job
-  pub holds : P (file_in job)
+  pub holds : IsFrom P (origin_of job)
 
--- a job is asked for, and P holds of it and of the text that was read of its file
-pub record OfText (files : FilesSeen) (asked : Option Job) (P : Job → List ℕ → Type 0) : Type 0 where
+-- a job is asked for whose program is from a file, and P holds of the text that was read of that
+pub record OfText (files : FilesSeen) (asked : Option Job) (P : List ℕ → Type 0) : Type 0 where
   pub job : Job
   pub is : asked ≡ Some job
   pub text : List ℕ
-  pub read : WasRead files (file_in job) most_bytes text
-  pub holds : P job text
+  pub read : IsFrom (λ file. WasRead files file most_bytes text) (origin_of job)
+  pub holds : P text
 
 -- the text is a program's of which P holds
 pub record OfProgram (P : Program → Type 0) (text : List ℕ) : Type 0 where
@@ -109,10 +119,19 @@ pub record OfProgram (P : Program → Type 0) (text : List ℕ) : Type 0 where
   pub reads : IsProgramOf text program
   pub holds : P program
 
--- a run on native threads is what is asked for; or one native thread can serve it
-abbrev pub IsAskedRun : Option Job → Option RustRun → Type 0
-IsAskedRun asked None = on_one_thread asked ≡ asked
-IsAskedRun asked (Some run) = (asked ≡ Some (Run (native_meant run))) × HasLimits (Run (native_meant run))
+-- a job is asked for, and P holds of it and of its program
+pub record OfJob (files : FilesSeen) (asked : Option Job) (P : Job → Program → Type 0) : Type 0 where
+  pub job : Job
+  pub is : asked ≡ Some job
+  pub program : Program
+  pub has : HasProgram (λ file text. WasRead files file most_bytes text) (origin_of job) program
+  pub holds : P job program
+
+-- a job for native threads is what is asked for; or one native thread can serve it
+abbrev pub IsAskedJob : Option Job → Option NativeJob → Type 0
+IsAskedJob asked None = on_one_thread asked ≡ asked
+IsAskedJob asked (Some job) =
+    (asked ≡ Some (native_job_meant job)) × HasLimits (native_job_meant job) × HasSize (origin_of (native_job_meant job))
 
 -- the text is a program's, which was verified with these hosts
 abbrev pub IsParsed : HostTable → List ℕ → Verified → Type 0
@@ -124,41 +143,42 @@ IsNoProgram hosts text (NotRead read_fault) = Refuses text read_fault
 IsNoProgram hosts text (NotVerified rule at) = OfProgram (λ program. IsFirstBroken program hosts (fault rule at)) text
 IsNoProgram hosts text found = ⊥
 
--- the file was read, and its text is so
-abbrev pub IsLoaded : FilesSeen → HostTable → Text → Verified → Type 0
-IsLoaded files hosts file verified = (text : List ℕ) × WasRead files file most_bytes text × IsParsed hosts text verified
+-- the file was read, and its text is so; or the program was generated
+abbrev pub IsLoaded : FilesSeen → HostTable → Origin → Verified → Type 0
+IsLoaded files hosts (InFile file) verified = (text : List ℕ) × WasRead files file most_bytes text × IsParsed hosts text verified
+IsLoaded files hosts (Generated run) verified = (verified.program ≡ made run.seed run.size) × (verified.hosts ≡ hosts)
 
 -- why it was not, or is not
-abbrev pub IsUnloaded : FilesSeen → HostTable → Text → Outcome → Type 0
-IsUnloaded files hosts file (FileFault role.Program) = Failed files file
-IsUnloaded files hosts file (FileFault role.Input) = ⊥
-IsUnloaded files hosts file (TooLong role.Program) = WasTooLong files file most_bytes
-IsUnloaded files hosts file (TooLong role.Input) = ⊥
-IsUnloaded files hosts file found = (text : List ℕ) × WasRead files file most_bytes text × IsNoProgram hosts text found
+abbrev pub IsUnloaded : FilesSeen → HostTable → Origin → Outcome → Type 0
+IsUnloaded files hosts origin (FileFault role.Program) = IsFrom (λ file. Failed files file) origin
+IsUnloaded files hosts origin (FileFault role.Input) = ⊥
+IsUnloaded files hosts origin (TooLong role.Program) = IsFrom (λ file. WasTooLong files file most_bytes) origin
+IsUnloaded files hosts origin (TooLong role.Input) = ⊥
+IsUnloaded files hosts origin found = (text : List ℕ) × IsFrom (λ file. WasRead files file most_bytes text) origin × IsNoProgram hosts text found
 
--- what the job finds in a program, and what record it leaves
+-- what a job finds in its accepted program with its input, and what record it leaves
+abbrev pub Serves : FilesSeen → HostTable → RunRecord → Outcome → Program → Job → Type 0
+Serves files hosts kept found program (Check file) =
+    (found ≡ Accepted (length program.functions) (sum_by function_instructions program.functions)) × (kept ≡ empty_record)
+Serves files hosts kept found program (Instrument file) =
+    (found ≡ Instrumented (translation hosts.entries program)) × (kept ≡ empty_record)
+Serves files hosts kept found program (Replay run) = (found ≡ Ran) × IsScheduledRun files hosts kept program run
+Serves files hosts kept found program (Run run) = (found ≡ Ran) × IsNativeRun files hosts kept program run.settings
+Serves files hosts kept found program (Load run) =
+    (found ≡ Loaded run.seed run.size) × IsNativeRun files hosts kept program default_settings
+Serves files hosts kept found program (Races run) = IsScheduledRun files hosts kept program run × IsRaced kept found
+Serves files hosts kept found program (Record run) = ⊥
+Serves files hosts kept found program (Recheck check) = ⊥
+Serves files hosts kept found program (Hush run) = ⊥
+Serves files hosts kept found program (Explain run) = IsScheduledRun files hosts kept program run × IsTraced kept found
+
+-- what a job finds in its program, which is accepted, and what record it leaves
 abbrev pub FindsIn : FilesSeen → HostTable → RunRecord → Outcome → Job → Program → Type 0
-FindsIn files hosts kept (NotVerified rule at) job program = IsFirstBroken program hosts (fault rule at) × (kept ≡ empty_record)
 FindsIn files hosts kept (FileFault role.Input) job program =
     IsAccepted program hosts × IsSomeAnd (input_in job) (λ file. Failed files file) × (kept ≡ empty_record)
 FindsIn files hosts kept (TooLong role.Input) job program =
     IsAccepted program hosts × IsSomeAnd (input_in job) (λ file. WasTooLong files file most_bytes) × (kept ≡ empty_record)
-FindsIn files hosts kept (Accepted functions instructions) (Check file) program =
-    IsAccepted program hosts × (functions ≡ length program.functions)
-    × (instructions ≡ sum_by function_instructions program.functions) × (kept ≡ empty_record)
-FindsIn files hosts kept (Instrumented target) (Instrument file) program =
-    IsAccepted program hosts × (target ≡ translation hosts.entries program) × (kept ≡ empty_record)
-FindsIn files hosts kept Ran (Replay run) program = IsAccepted program hosts × IsScheduledRun files hosts kept program run
-FindsIn files hosts kept Ran (Run run) program = IsAccepted program hosts × IsNativeRun files hosts kept program run
-FindsIn files hosts kept (Raced races) (Races run) program =
-    IsAccepted program hosts × IsScheduledRun files hosts kept program run × AreFirstRaces (merged kept) races
-FindsIn files hosts kept (Traced violations) (Explain run) program =
-    IsAccepted program hosts × IsScheduledRun files hosts kept program run × AreExplained kept violations
-FindsIn files hosts kept found job program = ⊥
-
--- the text that was read is a program's, in which the job finds this
-abbrev pub OfJob : FilesSeen → HostTable → Option Job → RunRecord → Outcome → Type 0
-OfJob files hosts asked kept found = OfText files asked (λ job text. OfProgram (FindsIn files hosts kept found job) text)
+FindsIn files hosts kept found job program = IsAccepted program hosts × Serves files hosts kept found program job
 
 -- why the work found this, and what record it left
 abbrev pub HasCause : FilesSeen → HostTable → Option Job → RunRecord → Outcome → Type 0
@@ -167,12 +187,14 @@ HasCause files hosts asked kept (FileFault role.Program) = OfFile asked (λ file
 HasCause files hosts asked kept (TooLong role.Program) =
     OfFile asked (λ file. WasTooLong files file most_bytes) × (kept ≡ empty_record)
 HasCause files hosts asked kept (NotRead read_fault) =
-    OfText files asked (λ job text. Refuses text read_fault) × (kept ≡ empty_record)
-HasCause files hosts asked kept found = OfJob files hosts asked kept found
+    OfText files asked (λ text. Refuses text read_fault) × (kept ≡ empty_record)
+HasCause files hosts asked kept (NotVerified rule at) =
+    OfText files asked (OfProgram (λ program. IsFirstBroken program hosts (fault rule at))) × (kept ≡ empty_record)
+HasCause files hosts asked kept found = OfJob files asked (FindsIn files hosts kept found)
 
--- the text that was read is an accepted program's, and the record is that of the run that was asked for
+-- the job's program is accepted, and the record is that of the run that was asked for
 abbrev pub OfRun : FilesSeen → HostTable → Option Job → RunRecord → Type 0
-OfRun files hosts asked kept = OfText files asked (λ job text. OfProgram (λ program. IsAccepted program hosts × IsOfRun files hosts kept program job) text)
+OfRun files hosts asked kept = OfJob files asked (λ job program. IsAccepted program hosts × IsOfRun files hosts kept program job)
 
 -- the record is empty, or that of the run that was asked for
 abbrev pub IsEmptyOrRight : FilesSeen → HostTable → Option Job → RunRecord → Type 0

@@ -3,14 +3,14 @@ use Rattle.std.specs.Prelude.{◌≡◌, ◌≢◌, ◌⊎◌, ◌≤◌, ℕ, B
 use Rattle.std.specs.List.{list_any, sum_by}
 use Rattle.std.specs.Io.KnownBytes.{Appends, Keeps}
 use Rattle.outside_io.specs.Counts.{Rose}
-use Rattle.command_words.specs.Jobs.{Job, NativeRun, ScheduledRun, settings_in}
-use Rattle.command_words.specs.Jobs.Job.{Check, Instrument, Replay, Run, Races, Explain}
+use Rattle.command_words.specs.Jobs.{Job, Settings, LoadRun, ScheduledRun, default_settings, settings_in}
+use Rattle.command_words.specs.Jobs.Job.{Check, Instrument, Replay, Run, Load, Races, Record, Recheck, Hush, Explain}
 use Rattle.core_model.specs.Kept.{Replayed}
 use Rattle.ir_ast.specs.Programs.{function_instructions}
 use Rattle.ir_ast.specs.declared.hosts.HostTable.{HostTable}
 use Rattle.ir_ast.specs.declared.program.Program.{Program}
 use Rattle.ir_text.specs.Bytes.{most_bytes}
-use Rattle.ir_reader.specs.Readings.{IsProgramOf, Refuses}
+use Rattle.ir_reader.specs.Readings.{Refuses}
 use Rattle.ir_reader.specs.declared.fault.ReadFault.{ReadFault}
 use Rattle.ir_rules.specs.declared.rule.Rule.{Rule}
 use Rattle.ir_rules.specs.Least.{fault}
@@ -28,12 +28,12 @@ use Rattle.explain.specs.Explanations.{AreExplained}
 use Rattle.explain.specs.Text.{explain_text}
 use Rattle.explain.specs.declared.explained.Explained.{Explained}
 use Rattle.source_sem.specs.Records.{IsRightRecord}
-use Rattle.bsan.specs.Words.{Text, file_in, input_in}
+use Rattle.bsan.specs.Words.{Text, origin_of, input_in, IsFrom}
 use Rattle.bsan.specs.Seen.{FilesSeen, SinkSeen, Failed, IsFault}
-use Rattle.bsan.specs.Lines.{accepted_line}
-use Rattle.bsan.specs.Answer.{OfFile, OfText, OfProgram, OfJob, IsEmptyOrRight, text_for, status_for}
+use Rattle.bsan.specs.Lines.{accepted_line, load_text}
+use Rattle.bsan.specs.Answer.{OfFile, OfText, OfProgram, OfJob, HasProgram, FindsIn, IsEmptyOrRight, text_for, status_for}
 use Rattle.bsan.specs.declared.outcome.Outcome.{Outcome}
-use Rattle.bsan.specs.declared.outcome.Outcome.TheVariants.{Accepted, Instrumented, Ran, Raced, Traced}
+use Rattle.bsan.specs.declared.outcome.Outcome.TheVariants.{Accepted, Instrumented, Ran, Loaded, Raced, Traced}
 
 -- the text was not put whole, or memory ran out
 abbrev pub IsCutShort : ℕ → Type 0
@@ -44,13 +44,13 @@ pub record UsageCause (asked : Option Job) (answer : ℕ) : Type 0 where
   pub only : answer ≡ 2 → asked ≡ None
   pub always : asked ≡ None → (answer ≡ 2) ⊎ IsCutShort answer
 
--- a job is asked for, and P holds of it and of the content of its file, which is told
-pub record TellsText (files : FilesSeen) (asked : Option Job) (P : Job → List ℕ → Type 0) : Type 0 where
+-- a job is asked for whose program is from a file, and P holds of the content of that, which is told
+pub record TellsText (files : FilesSeen) (asked : Option Job) (P : List ℕ → Type 0) : Type 0 where
   pub job : Job
   pub is : asked ≡ Some job
   pub text : List ℕ
-  pub content : files.content (file_in job) ≡ Some text
-  pub holds : P job text
+  pub content : IsFrom (λ file. files.content file ≡ Some text) (origin_of job)
+  pub holds : P text
 
 -- the program's file was not read
 abbrev pub IsUnread : FilesSeen → Option Job → Type 0
@@ -66,8 +66,8 @@ IsRefused text = (read_fault : ReadFault) × Refuses text read_fault
 
 -- 3: exactly where the text is refused, unless the program's file was not read
 pub record NotReadCause (files : FilesSeen) (asked : Option Job) (answer : ℕ) : Type 0 where
-  pub only : answer ≡ 3 → OfText files asked (λ job text. IsRefused text)
-  pub always : TellsText files asked (λ job text. IsRefused text) → (answer ≡ 3) ⊎ ComesBetween files asked answer
+  pub only : answer ≡ 3 → OfText files asked IsRefused
+  pub always : TellsText files asked IsRefused → (answer ≡ 3) ⊎ ComesBetween files asked answer
 
 -- a rule is broken somewhere; and one is told
 abbrev pub IsBroken : HostTable → Program → Type 0
@@ -78,8 +78,8 @@ IsBrokenFirst hosts program = (rule : Rule) × (at : ℕ) × IsFirstBroken progr
 
 -- 4: exactly where the text is a program's in which a rule is broken, unless the program's file was not read
 pub record NotVerifiedCause (files : FilesSeen) (hosts : HostTable) (asked : Option Job) (answer : ℕ) : Type 0 where
-  pub only : answer ≡ 4 → OfText files asked (λ job text. OfProgram (IsBrokenFirst hosts) text)
-  pub always : TellsText files asked (λ job text. OfProgram (IsBroken hosts) text) → (answer ≡ 4) ⊎ ComesBetween files asked answer
+  pub only : answer ≡ 4 → OfText files asked (OfProgram (IsBrokenFirst hosts))
+  pub always : TellsText files asked (OfProgram (IsBroken hosts)) → (answer ≡ 4) ⊎ ComesBetween files asked answer
 
 -- the program is accepted, and the file with the input was not read
 pub record HasUnreadInput (files : FilesSeen) (hosts : HostTable) (job : Job) (program : Program) : Type 0 where
@@ -89,15 +89,16 @@ pub record HasUnreadInput (files : FilesSeen) (hosts : HostTable) (job : Job) (p
 -- 7: only where the program's file was not read, or the input's, whose program was accepted
 abbrev pub ReadCause : FilesSeen → HostTable → Option Job → ℕ → Type 0
 ReadCause files hosts asked answer = answer ≡ 7
-    → IsUnread files asked ⊎ OfText files asked (λ job text. OfProgram (HasUnreadInput files hosts job) text)
+    → IsUnread files asked ⊎ OfJob files asked (HasUnreadInput files hosts)
 
 -- 8: only where the sink failed
 abbrev pub PutCause : SinkSeen → ℕ → Type 0
 PutCause sink answer = answer ≡ 8 → Rose sink.faults_before sink.faults_after
 
--- what was found is told of a run: its report, its races, or what led to its violations
+-- what was found is told of a run: its report or the end of that, its races, or what led to its violations
 abbrev pub TellsRun : Outcome → Type 0
 TellsRun Ran = Unit {0}
+TellsRun (Loaded seed size) = Unit {0}
 TellsRun (Raced races) = Unit {0}
 TellsRun (Traced violations) = Unit {0}
 TellsRun found = ⊥
@@ -106,7 +107,7 @@ TellsRun found = ⊥
 pub record RanWhole (files : FilesSeen) (hosts : HostTable) (sink : SinkSeen) (asked : Option Job) (kept : RunRecord) (answer : ℕ) : Type 0 where
   pub found : Outcome
   pub tells : TellsRun found
-  pub cause : OfJob files hosts asked kept found
+  pub cause : OfJob files asked (FindsIn files hosts kept found)
   pub status : answer ≡ status_for found kept
   pub text : Appends sink.taken_before sink.taken_after (text_for found kept)
 
@@ -114,13 +115,13 @@ pub record RanWhole (files : FilesSeen) (hosts : HostTable) (sink : SinkSeen) (a
 pub record AcceptedWhole (files : FilesSeen) (hosts : HostTable) (sink : SinkSeen) (asked : Option Job) (kept : RunRecord) : Type 0 where
   pub functions : ℕ
   pub instructions : ℕ
-  pub cause : OfJob files hosts asked kept (Accepted functions instructions)
+  pub cause : OfJob files asked (FindsIn files hosts kept (Accepted functions instructions))
   pub text : Appends sink.taken_before sink.taken_after (accepted_line functions instructions)
 
 -- a program whose target code was made, and whose text was put
 pub record InstrumentedWhole (files : FilesSeen) (hosts : HostTable) (sink : SinkSeen) (asked : Option Job) (kept : RunRecord) : Type 0 where
   pub target : Target
-  pub cause : OfJob files hosts asked kept (Instrumented target)
+  pub cause : OfJob files asked (FindsIn files hosts kept (Instrumented target))
   pub text : Appends sink.taken_before sink.taken_after (target_text target)
 
 -- an allocation has a violation
@@ -135,7 +136,7 @@ pub record RanWith (files : FilesSeen) (hosts : HostTable) (sink : SinkSeen) (as
 -- a run with data races, all of whose lines were put, and neither a trap nor a limit that was reached
 pub record RacedWhole (files : FilesSeen) (hosts : HostTable) (sink : SinkSeen) (asked : Option Job) (kept : RunRecord) : Type 0 where
   pub races : List Race
-  pub cause : OfJob files hosts asked kept (Raced races)
+  pub cause : OfJob files asked (FindsIn files hosts kept (Raced races))
   pub some : races ≢ []
   pub low : status_of kept ≤ 1
   pub text : Appends sink.taken_before sink.taken_after (race_text kept races)
@@ -179,11 +180,10 @@ IsGivenInput files (Some file) input = IsGiven files file input
 abbrev pub HasInput : FilesSeen → List ℕ → Job → Type 0
 HasInput files input job = IfSome (settings_in job) (λ settings. IsGivenInput files settings.input input)
 
--- this job is asked for, its files are told, the first is an accepted program's text, and neither they nor the sink fail
-pub record AllIsWell (files : FilesSeen) (hosts : HostTable) (sink : SinkSeen) (asked : Option Job) (job : Job) (text input : List ℕ) (program : Program) : Type 0 where
+-- this job is asked for, its files are told, its program is accepted, and neither they nor the sink fail
+pub record AllIsWell (files : FilesSeen) (hosts : HostTable) (sink : SinkSeen) (asked : Option Job) (job : Job) (program : Program) (input : List ℕ) : Type 0 where
   pub is : asked ≡ Some job
-  pub given : IsGiven files (file_in job) text
-  pub reads : IsProgramOf text program
+  pub has : HasProgram (IsGiven files) (origin_of job) program
   pub accepted : IsAccepted program hosts
   pub has_input : HasInput files input job
   pub no_put_fault : ¬ Rose sink.faults_before sink.faults_after
@@ -195,10 +195,16 @@ pub record IsReported (hosts : HostTable) (sink : SinkSeen) (kept : RunRecord) (
   pub text : Appends sink.taken_before sink.taken_after (text_of kept)
 
 -- the run's status, with the whole report, and a right record of the program with this input
-pub record IsRunRight (hosts : HostTable) (sink : SinkSeen) (kept : RunRecord) (program : Program) (input : List ℕ) (run : NativeRun) (answer : ℕ) : Type 0 where
-  pub right : IsRightRecord program input hosts run.settings.limits kept
+pub record IsRunRight (hosts : HostTable) (sink : SinkSeen) (kept : RunRecord) (program : Program) (input : List ℕ) (settings : Settings) (answer : ℕ) : Type 0 where
+  pub right : IsRightRecord program input hosts settings.limits kept
   pub status : answer ≡ status_of kept
   pub text : Appends sink.taken_before sink.taken_after (text_of kept)
+
+-- the run's status, with the end of its report, and a right record of the generated program without input
+pub record IsLoadTold (hosts : HostTable) (sink : SinkSeen) (kept : RunRecord) (program : Program) (run : LoadRun) (answer : ℕ) : Type 0 where
+  pub right : IsRightRecord program [] hosts default_settings.limits kept
+  pub status : answer ≡ status_of kept
+  pub text : Appends sink.taken_before sink.taken_after (load_text run.seed run.size kept)
 
 -- the lines of the run's races, with their status, and the record of the program's run with this input
 pub record IsChecked (hosts : HostTable) (sink : SinkSeen) (kept : RunRecord) (program : Program) (input : List ℕ) (run : ScheduledRun) (answer : ℕ) : Type 0 where
@@ -231,11 +237,15 @@ abbrev pub IsServed : HostTable → SinkSeen → RunRecord → Program → List 
 IsServed hosts sink kept program input answer (Check file) = IsCounted sink program answer
 IsServed hosts sink kept program input answer (Instrument file) = IsTranslated hosts sink program answer
 IsServed hosts sink kept program input answer (Replay run) = IsReported hosts sink kept program input run answer
-IsServed hosts sink kept program input answer (Run run) = IsRunRight hosts sink kept program input run answer
+IsServed hosts sink kept program input answer (Run run) = IsRunRight hosts sink kept program input run.settings answer
+IsServed hosts sink kept program input answer (Load run) = IsLoadTold hosts sink kept program run answer
 IsServed hosts sink kept program input answer (Races run) = IsChecked hosts sink kept program input run answer
+IsServed hosts sink kept program input answer (Record run) = ⊥
+IsServed hosts sink kept program input answer (Recheck check) = ⊥
+IsServed hosts sink kept program input answer (Hush run) = ⊥
 IsServed hosts sink kept program input answer (Explain run) = IsExplained hosts sink kept program input run answer
 
 -- where all is well, the job is served, or the call is out of memory
 abbrev pub IsComplete : FilesSeen → HostTable → SinkSeen → Option Job → RunRecord → ℕ → Type 0
-IsComplete files hosts sink asked kept answer = (job : Job) (text input : List ℕ) (program : Program)
-    → AllIsWell files hosts sink asked job text input program → IsServed hosts sink kept program input answer job ⊎ (answer ≡ 9)
+IsComplete files hosts sink asked kept answer = (job : Job) (program : Program) (input : List ℕ)
+    → AllIsWell files hosts sink asked job program input → IsServed hosts sink kept program input answer job ⊎ (answer ≡ 9)

@@ -5,13 +5,15 @@ use Rattle.ir_reader.specs.FaultTexts.{fault_text}
 use Rattle.ir_reader.specs.declared.fault.ReadFault.{ReadFault}
 use Rattle.ir_rules.specs.declared.rule.Rule.{Rule}
 use Rattle.ir_rules.specs.Least.{name_of}
+use Rattle.history.specs.declared.record.RunRecord.{RunRecord}
+use Rattle.report.specs.Report.{part_of}
 use Rattle.bsan.specs.declared.outcome.Role.{Role}
 use Rattle.bsan.specs.declared.outcome.Role.TheVariants.{Program, Input}
 
 abbrev pub usage_text : List ℕ
 usage_text =
-    codes "usage: bsan check FILE | instrument FILE | solo FILE | replay FILE SCHEDULE | run FILE | races FILE SCHEDULE | explain FILE SCHEDULE" ++ 10
-    ∷ (codes "options of solo, replay, run, races and explain: --input FILE --steps N --turns N --allocs N" ++ 10 ∷ [])
+    codes "usage: bsan check FILE | instrument FILE | solo FILE | replay FILE SCHEDULE | run FILE | load SEED SIZE | races FILE SCHEDULE | record FILE | recheck FILE RECORD | hush FILE RULES | explain FILE SCHEDULE" ++ 10
+    ∷ (codes "options of solo, replay, run, races, record, recheck, hush and explain: --input FILE --steps N --turns N --allocs N" ++ 10 ∷ [])
 
 abbrev pub role_text : Role → List ℕ
 role_text Program = codes "program"
@@ -32,6 +34,11 @@ fault_line fault = codes "not read: " ++ (fault_text fault ++ 10 ∷ [])
 -- not verified: RULE at PLACE
 abbrev pub rule_line : Rule → ℕ → List ℕ
 rule_line rule at = codes "not verified: " ++ (name_of rule ++ (codes " at " ++ (decimal at ++ 10 ∷ [])))
+
+-- load SEED SIZE, with the summary of the run and its status
+abbrev pub load_text : ℕ → ℕ → RunRecord → List ℕ
+load_text seed size kept =
+    codes "load " ++ (decimal seed ++ (codes " " ++ (decimal size ++ (codes ": " ++ (part_of 4 kept ++ part_of 5 kept)))))
 
 -- accepted: F functions, I instructions
 abbrev pub accepted_line : ℕ → ℕ → List ℕ

@@ -1,22 +1,35 @@
 -- The words of a command line, and the files that they name.
-use Rattle.std.specs.Prelude.{ℕ, List, Option, IfSome}
+use Rattle.std.specs.Prelude.{ℕ, ◌≤◌, List, Option, IfSome}
 use Rattle.std.specs.Option.{option_and_then}
-use Rattle.command_words.specs.Jobs.{Job, settings_in}
-use Rattle.command_words.specs.Jobs.Job.{Check, Instrument, Replay, Run, Races, Explain}
+use Rattle.command_words.specs.Jobs.{Job, LoadRun, settings_in}
+use Rattle.command_words.specs.Jobs.Job.{Check, Instrument, Replay, Run, Load, Races, Record, Recheck, Hush, Explain}
 use Rattle.core_model.specs.Running.{AreLimits}
 
 -- a word, or a name of a file, as its bytes
 abbrev pub Text : Type 0
 Text = List ℕ
 
--- the program's file
-abbrev pub file_in : Job → Text
-file_in (Check file) = file
-file_in (Instrument file) = file
-file_in (Replay run) = run.file
-file_in (Run run) = run.file
-file_in (Races run) = run.file
-file_in (Explain run) = run.file
+-- where the program of a job is from: its file, or a seed and a size
+pub data Origin : Type 0 where
+  InFile : (file : Text) → Origin
+  Generated : (run : LoadRun) → Origin
+
+abbrev pub origin_of : Job → Origin
+origin_of (Check file) = InFile file
+origin_of (Instrument file) = InFile file
+origin_of (Replay run) = InFile run.file
+origin_of (Run run) = InFile run.file
+origin_of (Load run) = Generated run
+origin_of (Races run) = InFile run.file
+origin_of (Record run) = InFile run.file
+origin_of (Recheck check) = InFile check.file
+origin_of (Hush run) = InFile run.file
+origin_of (Explain run) = InFile run.file
+
+-- the program is from a file, of which P holds
+abbrev pub IsFrom : (Text → Type 0) → Origin → Type 0
+IsFrom P (InFile file) = P file
+IsFrom P (Generated run) = ⊥
 
 -- the file with the input, where the job has a run and names one
 abbrev pub input_in : Job → Option Text
@@ -25,3 +38,8 @@ input_in job = option_and_then (λ settings. settings.input) (settings_in job)
 -- the limits of a run are in their ranges
 abbrev pub HasLimits : Job → Type 0
 HasLimits job = IfSome (settings_in job) (λ settings. AreLimits settings.limits)
+
+-- the size of a generated program is in its range
+abbrev pub HasSize : Origin → Type 0
+HasSize (InFile file) = Unit {0}
+HasSize (Generated run) = (1 ≤ run.size) × (run.size ≤ 10000)

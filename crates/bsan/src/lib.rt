@@ -7,13 +7,17 @@
 //!
 //! `bsan_alone` serves the commands that need one native thread: `check`, `instrument`, `solo`, `replay`,
 //! `races` and `explain`.
-//! `bsan` serves `run` besides, which has a native thread for each thread of the program.
+//! `bsan` serves `run` and `load` besides, which have a native thread for each thread of the program.
 #![tactic(auto)]
 
+mod generated;
+mod hush;
 mod lines;
 mod load;
 mod native;
 mod outcome;
+mod recheck;
+mod record;
 mod top;
 
 pub use native::bsan;

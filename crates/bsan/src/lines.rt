@@ -1,17 +1,20 @@
 //! How refusals, faults and acceptance are told.
 ghost use Rattle.std.specs.Prelude.{◌≡◌, IfOk};
+ghost use Rattle.report.specs.Report.{IsReportable};
 ghost use Rattle.bsan.specs.Lines as lines;
 
 use crate::outcome::Role;
 use bsan_ids::NoMemory;
 use ir_reader::ReadFault;
 use ir_rules::Rule;
+use report::part;
+use run_record::RunRecord;
 use std::alloc::Global;
 
 /// How the program is used.
 pub(crate) const USAGE: &str =
-    "usage: bsan check FILE | instrument FILE | solo FILE | replay FILE SCHEDULE | run FILE | races FILE SCHEDULE | explain FILE SCHEDULE\n\
-options of solo, replay, run, races and explain: --input FILE --steps N --turns N --allocs N\n";
+    "usage: bsan check FILE | instrument FILE | solo FILE | replay FILE SCHEDULE | run FILE | load SEED SIZE | races FILE SCHEDULE | record FILE | recheck FILE RECORD | hush FILE RULES | explain FILE SCHEDULE\n\
+options of solo, replay, run, races, record, recheck, hush and explain: --input FILE --steps N --turns N --allocs N\n";
 
 /// A file's role in a word.
 fn role_name(role: Role) -> &'static str
@@ -71,6 +74,27 @@ pub(crate) fn rule_line(alloc: Global, rule: Rule, at: u32) -> Result<Vec<u8>, N
 {
     let line = format!(in alloc; "not verified: {rule} at {at}\n")?;
     Ok(Vec::from_slice(alloc, line.as_bytes())?)
+}
+
+/// The two lines of a run of a generated program: `load SEED SIZE: ` with the summary of its report, and its status.
+///
+/// # Errors
+///
+/// `NoMemory`: out of memory.
+pub(crate) fn load_text(
+    alloc: Global,
+    seed: u32,
+    size: u32,
+    kept: &RunRecord,
+) -> Result<Vec<u8>, NoMemory>
+    requires { IsReportable kept.now }
+    ensures { IfOk result (λ text. text.items ≡ lines.load_text seed size kept.now) }
+{
+    let start = format!(in alloc; "load {seed} {size}: ")?;
+    let mut text = Vec::from_slice(alloc, start.as_bytes())?;
+    text.extend_from_slice(&part(alloc, kept, 4)?)?;
+    text.extend_from_slice(&part(alloc, kept, 5)?)?;
+    Ok(text)
 }
 
 /// The line of an accepted program: `accepted: F functions, I instructions`.

@@ -5,6 +5,7 @@ ghost use Rattle.ir_text.specs.Bytes.{most_bytes};
 ghost use Rattle.bsan.specs.Answer.{IsBrokenRule, IsUnreadInput, IsParsed, IsNoProgram, IsLoaded, IsUnloaded};
 ghost use Rattle.bsan.specs.Seen.{seen_files, Failed, WasTooLong, WasRead};
 ghost use Rattle.bsan.specs.Runs.{IsInput};
+ghost use Rattle.bsan.specs.Words.Origin.{InFile};
 
 use crate::outcome::{Outcome, Role};
 use bsan_ids::NoMemory;
@@ -123,10 +124,10 @@ pub(crate) fn load<S: Files>(
     ensures loaded { IfOk result (λ loaded. MatchResult loaded
         (IsLoaded
         (seen_files (S.content files.old) (S.faults files.old) (S.faults files.new) (S.overlong files.old) (S.overlong files.new))
-        hosts.now.table file.now)
+        hosts.now.table (InFile file.now))
         (IsUnloaded
         (seen_files (S.content files.old) (S.faults files.old) (S.faults files.new) (S.overlong files.old) (S.overlong files.new))
-        hosts.now.table file.now)) }
+        hosts.now.table (InFile file.now))) }
     ensures content { (other : List ℕ) → S.content files.new other ≡ S.content files.old other }
     ensures faults { (other : List ℕ) → S.faults files.old other ≤ S.faults files.new other }
     ensures overlong { (other : List ℕ) (most : ℕ) → S.overlong files.old other most ≤ S.overlong files.new other most }

@@ -1,65 +1,99 @@
-//! Runs on native threads, and the top call that serves them.
-ghost use Rattle.std.specs.Prelude.{◌≡◌, Some, map, string_bytes, MatchResult, IfOk, OnOk, OnErr};
+//! Jobs for native threads, and the top call that serves them.
+ghost use Rattle.std.specs.Prelude.{◌≡◌, ◌≤◌, ℕ, List, Some, map, string_bytes, MatchResult, IfOk, OnOk, OnErr, IsErrOf};
+ghost use Rattle.std.specs.Option.{IsSomeAnd};
 ghost use Rattle.command_words.specs.Jobs as jobs;
-ghost use Rattle.command_words.specs.Meaning.{native_meant};
+ghost use Rattle.command_words.specs.Meaning.{load_meant, native_job_meant, native_meant, settings_meant};
 ghost use Rattle.core_model.specs.Running.{AreLimits};
 ghost use Rattle.history.specs.Records.{empty_record};
+ghost use Rattle.ir_text.specs.Bytes.{most_bytes};
 ghost use Rattle.source_sem.specs.Records.{IsRightRecord};
-ghost use Rattle.bsan.specs.Answer.{FindsIn, HasCause, Answers, IsAskedRun};
-ghost use Rattle.bsan.specs.Seen.{seen_files, seen_sink};
+ghost use Rattle.bsan.specs.Answer.{FindsIn, HasCause, Answers, IsAskedJob, IsLoaded, IsUnloaded};
+ghost use Rattle.bsan.specs.Runs.{IsNativeRun};
+ghost use Rattle.bsan.specs.Seen.{seen_files, seen_sink, Failed, WasTooLong};
+ghost use Rattle.bsan.specs.Words.{HasLimits, HasSize, origin_of};
 ghost use Rattle.bsan.specs.Causes.{UsageCause, ReadCause, NotReadCause, NotVerifiedCause, PutCause, RunCause, MemoryCause};
 ghost use Rattle.bsan.specs.Causes.{LeavesNone, IsComplete};
 
+use crate::generated::generate;
 use crate::load::{load, read_input, unread_input};
 use crate::outcome::Outcome;
 use crate::top::{NO_MEMORY, bsan_alone, tell};
-use bsan_ids::NoMemory;
-use command_words::{NativeRun, WordsFault, read_job};
+use bsan_ids::{Limits, NoMemory};
+use command_words::{LoadRun, NativeJob, NativeRun, Settings, WordsFault, read_job};
 use core_model::main_machine;
 use hosts::Hosts;
 use instrument::instrument;
 use interp::run_program;
 use ir_rules::Verified;
-use outside_io::{Files, Gate, Sink};
+use outside_io::{FileFault, Files, Gate, Sink};
 use run_record::RunRecord;
 use std::alloc::Global;
 use std::sync::Wait;
 use std::thread::Threads;
 
-/// What a run on native threads is given from outside.
+/// What the jobs for native threads are given from outside.
 #[derive(Clone, Copy)]
-struct Native<'a, R, G> {
-    rt: &'a R,
-    alloc: Global,
-    gate: &'a G,
-    hosts: &'a Hosts,
+pub(crate) struct Native<'a, R, G> {
+    pub(crate) rt: &'a R,
+    pub(crate) alloc: Global,
+    pub(crate) gate: &'a G,
+    pub(crate) hosts: &'a Hosts,
 }
 
 impl<'a, R: Threads + Wait + Sync, G: Gate + Sync> Native<'a, R, G> {
     /// Runs a verified program with its input.
     fn run(
         &self,
-        asked: &NativeRun<'_>,
+        limits: &Limits,
         verified: &Verified,
         input: &[u8],
         kept: &mut RunRecord,
     ) -> Result<(), NoMemory>
         requires hosts { verified.now.hosts ≡ self.now.hosts.now.table }
-        requires limits { AreLimits asked.now.settings.limits }
+        requires limits { AreLimits limits.now }
         requires empty { kept.old ≡ empty_record }
-        ensures ok { OnOk result (IsRightRecord verified.now.program input.now self.now.hosts.now.table asked.now.settings.limits kept.new) }
+        ensures ok { OnOk result (IsRightRecord verified.now.program input.now self.now.hosts.now.table limits.now kept.new) }
         ensures err { OnErr result (kept.new ≡ empty_record) }
     {
         let target = instrument(self.alloc, verified)?;
         let (main, machine) = main_machine(self.alloc, verified, &target, input)?;
-        let limits = &asked.settings.limits;
         run_program(
             self.rt, self.alloc, main, machine, limits, self.gate, self.hosts, kept,
         )
     }
 
     /// Reads the input of a run, and makes it.
-    fn serve<S: Files>(
+    pub(crate) fn run_with<S: Files>(
+        &self,
+        settings: &Settings<'_>,
+        verified: &Verified,
+        files: &mut S,
+        kept: &mut RunRecord,
+    ) -> Result<(), FileFault>
+        requires hosts { verified.now.hosts ≡ self.now.hosts.now.table }
+        requires limits { AreLimits settings.now.limits }
+        requires empty { kept.old ≡ empty_record }
+        ensures ran { OnOk result (IsNativeRun
+            (seen_files (S.content files.old) (S.faults files.old) (S.faults files.new) (S.overlong files.old) (S.overlong files.new))
+            self.now.hosts.now.table kept.new verified.now.program (settings_meant settings.now)) }
+        ensures failed { IsErrOf result FileFault.Failed → IsSomeAnd (settings_meant settings.now).input (λ file. Failed
+            (seen_files (S.content files.old) (S.faults files.old) (S.faults files.new) (S.overlong files.old) (S.overlong files.new))
+            file) }
+        ensures too_long { IsErrOf result FileFault.TooLong → IsSomeAnd (settings_meant settings.now).input (λ file. WasTooLong
+            (seen_files (S.content files.old) (S.faults files.old) (S.faults files.new) (S.overlong files.old) (S.overlong files.new))
+            file most_bytes) }
+        ensures err { OnErr result (kept.new ≡ empty_record) }
+    {
+        let mut input = Vec::new(self.alloc);
+        read_input(files, settings.input, &mut input)?;
+        match self.run(&settings.limits, verified, input.as_slice(), kept) {
+            Ok(()) => Ok(()),
+            Err(NoMemory) => Err(FileFault::NoMemory),
+        }
+    }
+
+    /// Makes a run, and tells of it.
+    fn serve_run<S: Files>(
         &self,
         asked: &NativeRun<'_>,
         verified: &Verified,
@@ -74,60 +108,135 @@ impl<'a, R: Threads + Wait + Sync, G: Gate + Sync> Native<'a, R, G> {
             self.now.hosts.now.table kept.new found (jobs.Run (native_meant asked.now)) verified.now.program)
             (λ _. kept.new ≡ empty_record) }
     {
-        let mut input = Vec::new(self.alloc);
-        if let Err(fault) = read_input(files, asked.settings.input, &mut input) {
-            return unread_input(fault);
+        match self.run_with(&asked.settings, verified, files, kept) {
+            Ok(()) => Ok(Outcome::Ran),
+            Err(fault) => unread_input(fault),
         }
-        self.run(asked, verified, input.as_slice(), kept)?;
-        Ok(Outcome::Ran)
     }
 
-    /// Does the work of a run, up to its text.
-    fn find<S: Files>(
+    /// Makes the run of a generated program, which has no input, and tells of its end.
+    fn serve_load<S: Files>(
         &self,
-        asked: &NativeRun<'_>,
+        asked: &LoadRun,
+        verified: &Verified,
         files: &mut S,
         kept: &mut RunRecord,
     ) -> Result<Outcome, NoMemory>
-        requires { AreLimits asked.now.settings.limits }
+        requires hosts { verified.now.hosts ≡ self.now.hosts.now.table }
+        requires empty { kept.old ≡ empty_record }
+        ensures { MatchResult result (λ found. FindsIn
+            (seen_files (S.content files.old) (S.faults files.old) (S.faults files.new) (S.overlong files.old) (S.overlong files.new))
+            self.now.hosts.now.table kept.new found (jobs.Load (load_meant asked.now)) verified.now.program)
+            (λ _. kept.new ≡ empty_record) }
+    {
+        match self.run_with(&Settings::defaults(), verified, files, kept) {
+            Ok(()) => Ok(Outcome::Loaded {
+                seed: asked.seed,
+                size: asked.size,
+            }),
+            Err(fault) => unread_input(fault),
+        }
+    }
+
+    /// Serves a job on its verified program.
+    fn serve<S: Files>(
+        &self,
+        job: &NativeJob<'_>,
+        verified: &Verified,
+        files: &mut S,
+        kept: &mut RunRecord,
+    ) -> Result<Outcome, NoMemory>
+        requires hosts { verified.now.hosts ≡ self.now.hosts.now.table }
+        requires limits { HasLimits (native_job_meant job.now) }
+        requires empty { kept.old ≡ empty_record }
+        ensures { MatchResult result (λ found. FindsIn
+            (seen_files (S.content files.old) (S.faults files.old) (S.faults files.new) (S.overlong files.old) (S.overlong files.new))
+            self.now.hosts.now.table kept.new found (native_job_meant job.now) verified.now.program)
+            (λ _. kept.new ≡ empty_record) }
+    {
+        match job {
+            NativeJob::Run(asked) => self.serve_run(asked, verified, files, kept),
+            NativeJob::Load(asked) => self.serve_load(asked, verified, files, kept),
+            NativeJob::Record(asked) => self.serve_record(asked, verified, files, kept),
+            NativeJob::Hush(asked) => self.serve_hush(asked, verified, files, kept),
+        }
+    }
+
+    /// The program of a job; or what is found where there is none.
+    fn program<S: Files>(
+        &self,
+        job: &NativeJob<'_>,
+        files: &mut S,
+    ) -> Result<Result<Verified, Outcome>, NoMemory>
+        requires { HasSize (origin_of (native_job_meant job.now)) }
+        ensures loaded { IfOk result (λ loaded. MatchResult loaded
+            (IsLoaded
+            (seen_files (S.content files.old) (S.faults files.old) (S.faults files.new) (S.overlong files.old) (S.overlong files.new))
+            self.now.hosts.now.table (origin_of (native_job_meant job.now)))
+            (IsUnloaded
+            (seen_files (S.content files.old) (S.faults files.old) (S.faults files.new) (S.overlong files.old) (S.overlong files.new))
+            self.now.hosts.now.table (origin_of (native_job_meant job.now)))) }
+        ensures content { (other : List ℕ) → S.content files.new other ≡ S.content files.old other }
+        ensures faults { (other : List ℕ) → S.faults files.old other ≤ S.faults files.new other }
+        ensures overlong { (other : List ℕ) (most : ℕ) → S.overlong files.old other most ≤ S.overlong files.new other most }
+    {
+        match job {
+            NativeJob::Run(asked) | NativeJob::Record(asked) => {
+                load(self.alloc, asked.file, files, self.hosts)
+            }
+            NativeJob::Load(asked) => Ok(Ok(generate(self.alloc, asked, self.hosts)?)),
+            NativeJob::Hush(asked) => load(self.alloc, asked.file, files, self.hosts),
+        }
+    }
+
+    /// Does the work of a job, up to its text.
+    fn find<S: Files>(
+        &self,
+        job: &NativeJob<'_>,
+        files: &mut S,
+        kept: &mut RunRecord,
+    ) -> Result<Outcome, NoMemory>
+        requires limits { HasLimits (native_job_meant job.now) }
+        requires size { HasSize (origin_of (native_job_meant job.now)) }
         ensures { MatchResult result
             (HasCause
             (seen_files (S.content files.old) (S.faults files.old) (S.faults files.new) (S.overlong files.old) (S.overlong files.new))
-            self.now.hosts.now.table (Some (jobs.Run (native_meant asked.now))) kept.new)
+            self.now.hosts.now.table (Some (native_job_meant job.now)) kept.new)
             (λ _. kept.new ≡ empty_record) }
     {
         kept.clear();
-        match load(self.alloc, asked.file, files, self.hosts)? {
-            Ok(verified) => self.serve(asked, &verified, files, kept),
+        match self.program(job, files)? {
+            Ok(verified) => self.serve(job, &verified, files, kept),
             Err(found) => Ok(found),
         }
     }
 
-    /// Does the work of a run, and puts its text.
+    /// Does the work of a job, and puts its text.
     fn answer<S: Files, K: Sink>(
         &self,
-        asked: &NativeRun<'_>,
+        job: &NativeJob<'_>,
         files: &mut S,
         out: &mut K,
         kept: &mut RunRecord,
     ) -> u8
-        requires { AreLimits asked.now.settings.limits }
+        requires limits { HasLimits (native_job_meant job.now) }
+        requires size { HasSize (origin_of (native_job_meant job.now)) }
         ensures { Answers
             (seen_files (S.content files.old) (S.faults files.old) (S.faults files.new) (S.overlong files.old) (S.overlong files.new))
             self.now.hosts.now.table
             (seen_sink (K.taken out.old) (K.taken out.new) (K.faults out.old) (K.faults out.new))
-            (Some (jobs.Run (native_meant asked.now))) kept.new result }
+            (Some (native_job_meant job.now)) kept.new result }
     {
-        match self.find(asked, files, kept) {
+        match self.find(job, files, kept) {
             Ok(found) => tell(self.alloc, &found, out, kept),
             Err(NoMemory) => NO_MEMORY,
         }
     }
 }
 
-/// The run on native threads that the words ask for, if they do.
-fn asked_run<'w>(alloc: Global, words: &'w [String]) -> Result<Option<NativeRun<'w>>, NoMemory>
-    ensures { IfOk result (IsAskedRun (jobs.job_of (map string_bytes words.entry.now))) }
+/// The job for native threads that the words ask for, if they do.
+fn asked_job<'w>(alloc: Global, words: &'w [String]) -> Result<Option<NativeJob<'w>>, NoMemory>
+    ensures { IfOk result (IsAskedJob (jobs.job_of (map string_bytes words.entry.now))) }
 {
     match read_job(alloc, words) {
         Ok(job) => Ok(job.native()),
@@ -154,15 +263,15 @@ fn answer<R: Threads + Wait + Sync, S: Files, K: Sink, G: Gate + Sync>(
         (jobs.job_of (map string_bytes words.now)) kept.new result }
 {
     kept.clear();
-    match asked_run(alloc, words) {
-        Ok(Some(run)) => {
+    match asked_job(alloc, words) {
+        Ok(Some(job)) => {
             let native = Native {
                 rt,
                 alloc,
                 gate,
                 hosts,
             };
-            native.answer(&run, files, out, kept)
+            native.answer(&job, files, out, kept)
         }
         Ok(None) => bsan_alone(alloc, words, files, out, hosts, kept),
         Err(NoMemory) => NO_MEMORY,
@@ -170,17 +279,21 @@ fn answer<R: Threads + Wait + Sync, S: Files, K: Sink, G: Gate + Sync>(
 }
 
 /// Serves `run FILE`, which runs the program of the file with a native thread for each thread that it starts, and puts
-/// the report of that run; and all commands of [`bsan_alone`], which it calls for them. `run` takes the same options. It
-/// may wait for its threads. The `gate` is told where they have come to.
+/// the report of that run; `load SEED SIZE`, which runs the program that the number SEED gives so, whose four workers each
+/// make SIZE stores; and all commands of [`bsan_alone`], which it calls for them. `run` takes the same options. `load`
+/// takes none: its run has no input and the limits that they have without a value. After `load` the text of a run is the line
+/// `load SEED SIZE: ` with the summary of the report, and the line of its status. Both may wait for their threads. The `gate`
+/// is told where they have come to.
 ///
 /// What is done in which order, what is put and what is answered is as for `bsan_alone`: a run on native threads
-/// stands where a run on one does.
+/// stands where a run on one does. `load` reads no file, so its answer is none of 3, 4 and 7.
 ///
 /// > For every accepted program and input, and however its threads interleave, each allocation's accesses, retags, protector ends and free form one history, ordered by stamps, that holds each thread's calls in program order and once; every reply and verdict is eager Tree Borrows' at that point; the printed reports are exactly the first violations; and the stamped steps merged are a run of the uninstrumented program.
 ///
 /// It claims this sentence where a run is made: memory may run out first. After a run `kept` is a right record, its
-/// erasure included, of the program that was read, with the input that was read and within the limits of the words.
-/// The text that is put is the report of `kept`, whose violation lines are the first violations.
+/// erasure included, of the program that was read, with the input that was read and within the limits of the words; or of
+/// the program that SEED and SIZE give. After `run` the text that is put is the report of `kept`, whose violation lines are the
+/// first violations.
 pub fn bsan<R: Threads + Wait + Sync, S: Files, K: Sink, G: Gate + Sync>(
     rt: &R,
     alloc: Global,

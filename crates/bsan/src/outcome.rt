@@ -2,7 +2,9 @@
 ghost use Rattle.std.specs.Prelude.{◌≡◌, IfOk};
 ghost use Rattle.bsan.specs.Answer as answer;
 
-use crate::lines::{USAGE, accepted_line, fault_line, file_fault_line, rule_line, too_long_line};
+use crate::lines::{
+    USAGE, accepted_line, fault_line, file_fault_line, load_text, rule_line, too_long_line,
+};
 use bsan_ids::{ListOf, NoMemory};
 use explain::{Explained, explain_text};
 use ir_reader::ReadFault;
@@ -39,6 +41,8 @@ pub enum Outcome {
     Instrumented { target: Target },
     /// The program was run, and its record kept.
     Ran,
+    /// The program that the seed and the size give was run, and its record kept.
+    Loaded { seed: u32, size: u32 },
     /// The program was run, its record kept, and the data races of the run found.
     Raced { races: ListOf<Race> },
     /// The program was run, its record kept, and the steps found that led to each first violation.
@@ -55,13 +59,13 @@ pub fn status_for(found: &Outcome, kept: &RunRecord) -> u8
         Outcome::NotRead { .. } => 3,
         Outcome::NotVerified { .. } => 4,
         Outcome::Accepted { .. } | Outcome::Instrumented { .. } => 0,
-        Outcome::Ran | Outcome::Traced { .. } => status_of(kept),
+        Outcome::Ran | Outcome::Loaded { .. } | Outcome::Traced { .. } => status_of(kept),
         Outcome::Raced { races } => race_status(kept, races.as_slice()),
     }
 }
 
-/// The text of what was found: a line or two, the target code, the report of the record, the lines of its races, or
-/// those on what led to its violations.
+/// The text of what was found: a line or two, the target code, the report of the record or the end of that, the lines of
+/// its races, or those on what led to its violations.
 ///
 /// # Errors
 ///
@@ -82,6 +86,7 @@ pub fn text_for(alloc: Global, found: &Outcome, kept: &RunRecord) -> Result<Vec<
         } => accepted_line(alloc, *functions, *instructions),
         Outcome::Instrumented { target } => text(alloc, target),
         Outcome::Ran => text_of(alloc, kept),
+        Outcome::Loaded { seed, size } => load_text(alloc, *seed, *size, kept),
         Outcome::Raced { races } => race_text(alloc, kept, races.as_slice()),
         Outcome::Traced { violations } => explain_text(alloc, kept, violations.as_slice()),
     }

@@ -5,12 +5,14 @@ ghost use Rattle.hosts.specs.Standard.{standard_table};
 use crate::{bsan, bsan_alone};
 use bsan_ids::{ListOf, Name};
 use hosts::{Hosts, standard_answer, standard_table};
+use ir_ast::print;
 use outside_io::{MemFiles, MemSink, NoGate};
 use run_record::{RunRecord, ThreadLog};
 use std::alloc::Global;
 use std::sync::Wait;
 use std::test::Fail;
 use std::thread::Threads;
+use workload::make;
 
 const SMALLEST: &str = "bir 1\nfunc @main() -> i64 {\nentry:\n  ret i64 0\n}\n";
 
@@ -18,8 +20,8 @@ const REPORT: &str =
     "thread 0 returned 0\nsteps 0, allocations 0, threads 1, violations 0\nstatus 0\n";
 
 const USAGE: &str =
-    "usage: bsan check FILE | instrument FILE | solo FILE | replay FILE SCHEDULE | run FILE | races FILE SCHEDULE | explain FILE SCHEDULE\n\
-    options of solo, replay, run, races and explain: --input FILE --steps N --turns N --allocs N\n";
+    "usage: bsan check FILE | instrument FILE | solo FILE | replay FILE SCHEDULE | run FILE | load SEED SIZE | races FILE SCHEDULE | record FILE | recheck FILE RECORD | hush FILE RULES | explain FILE SCHEDULE\n\
+    options of solo, replay, run, races, record, recheck, hush and explain: --input FILE --steps N --turns N --allocs N\n";
 
 /// Files of one call: the program's, which is `p`, and the input's, which is `q`, with the reads that fail.
 #[derive(Clone, Copy)]
@@ -83,7 +85,7 @@ fn call<R: Threads + Wait + Sync>(
 }
 
 /// Words, the program, the status and the text that comes.
-const TEXTS: [(&str, &str, u8, &str); 26] = [
+const TEXTS: [(&str, &str, u8, &str); 29] = [
     (
         "solo p",
         "bir 1\nfunc @main(",
@@ -154,6 +156,9 @@ const TEXTS: [(&str, &str, u8, &str); 26] = [
     ("solo p --steps 0", SMALLEST, 2, USAGE),
     ("replay p 0,,1", SMALLEST, 2, USAGE),
     ("check p --help", SMALLEST, 2, USAGE),
+    ("load 1", SMALLEST, 2, USAGE),
+    ("load 1 0", SMALLEST, 2, USAGE),
+    ("load 1 10001", SMALLEST, 2, USAGE),
     ("races p", SMALLEST, 2, USAGE),
     ("explain p", SMALLEST, 2, USAGE),
     ("solo missing", SMALLEST, 7, "read fault: program\n"),
@@ -354,7 +359,19 @@ const EXPLANATIONS: [(&str, &str, u8, &str); 12] = [
 ];
 
 /// Words, the program, the status and the report that comes.
-const RUNS: [(&str, &str, u8, &str); 39] = [
+const RUNS: [(&str, &str, u8, &str); 41] = [
+    (
+        "load 7 1000",
+        SMALLEST,
+        0,
+        "load 7 1000: steps 4035, allocations 1, threads 5, violations 0\nstatus 0\n",
+    ),
+    (
+        "load 0000000000 10000",
+        SMALLEST,
+        0,
+        "load 0 10000: steps 40035, allocations 1, threads 5, violations 0\nstatus 0\n",
+    ),
     (
         "solo p",
         "bir 01 func @main()->i64{entry:ret i64 007}; and no more",
@@ -764,10 +781,32 @@ fn one_native_thread_serves_all_but_runs(rt: HostRuntime) -> Result<(), Fail> {
         failing: &[],
     };
     let alone: Option<&HostRuntime> = None;
-    for (line, status, want) in [("run p", 2, USAGE), ("solo p", 0, HALVES_REPORT)] {
+    for (line, status, want) in [
+        ("run p", 2, USAGE),
+        ("load 1 1", 2, USAGE),
+        ("solo p", 0, HALVES_REPORT),
+    ] {
         let answer = call(alone, alloc, line, &given, None)?;
         assert_eq!(rt; answer.status, status, "{line}");
         assert_eq!(rt; answer.text.as_slice(), want.as_bytes(), "{line}");
     }
+    Ok(())
+}
+
+#[test]
+fn a_generated_program_is_read_again(rt: HostRuntime) -> Result<(), Fail> {
+    let alloc = rt.alloc();
+    let text = print(alloc, &make(alloc, 0, 1)?)?;
+    let Ok(program) = str::from_utf8(text.as_slice()) else {
+        return Err(Fail::new("print"));
+    };
+    let given = Given {
+        program,
+        input: "",
+        failing: &[],
+    };
+    let answer = call(Some(&rt), alloc, "check p", &given, None)?;
+    let want = "accepted: 5 functions, 66 instructions\n";
+    assert_eq!(rt; answer.text.as_slice(), want.as_bytes());
     Ok(())
 }

@@ -11,12 +11,14 @@ ghost use Rattle.explain.specs.Explanations.{AreHistories};
 ghost use Rattle.bsan.specs.Answer.{FindsIn, HasCause, Answers, CanBeTold, IsTold, IsRaced, IsTraced};
 ghost use Rattle.bsan.specs.Seen.{seen_files, seen_sink, Failed, WasTooLong, Puts};
 ghost use Rattle.bsan.specs.Runs.{IsScheduledRun};
-ghost use Rattle.bsan.specs.Words.{file_in, HasLimits};
+ghost use Rattle.bsan.specs.Words.{origin_of, HasLimits};
+ghost use Rattle.bsan.specs.Words.Origin.{InFile};
 ghost use Rattle.bsan.specs.Causes.{UsageCause, ReadCause, NotReadCause, NotVerifiedCause, PutCause, RunCause, MemoryCause};
 ghost use Rattle.bsan.specs.Causes.{LeavesNone, IsComplete};
 
 use crate::load::{load, read_input, unread_input};
 use crate::outcome::{Outcome, status_for, text_for};
+use crate::recheck::serve_recheck;
 use bsan_ids::{ListOf, NoMemory};
 use command_words::{Job, ScheduledRun, WordsFault, read_job};
 use core_model::{main_machine, replay};
@@ -239,20 +241,23 @@ fn serve<S: Files>(
             target: instrument(alloc, verified)?,
         }),
         Job::Replay(asked) => serve_replay(alloc, asked, verified, files, hosts, kept),
-        Job::Run(_) => unreachable!(),
         Job::Races(asked) => serve_races(alloc, asked, verified, files, hosts, kept),
+        Job::Recheck(asked) => serve_recheck(alloc, asked, verified, files, hosts, kept),
         Job::Explain(asked) => serve_explain(alloc, asked, verified, files, hosts, kept),
+        Job::Run(_) | Job::Load(_) | Job::Record(_) | Job::Hush(_) => unreachable!(),
     }
 }
 
 /// The program's file.
 fn file_of<'w>(job: &Job<'w>) -> &'w str
-    ensures { result.now ≡ file_in (job_meant job.now) }
+    requires alone { native_in (job_meant job.now) ≡ None }
+    ensures { origin_of (job_meant job.now) ≡ InFile result.now }
 {
     match job {
         Job::Check { file } | Job::Instrument { file } => file,
         Job::Replay(run) | Job::Races(run) | Job::Explain(run) => run.file,
-        Job::Run(run) => run.file,
+        Job::Recheck(check) => check.file,
+        Job::Run(_) | Job::Load(_) | Job::Record(_) | Job::Hush(_) => unreachable!(),
     }
 }
 
