@@ -2,4 +2,3 @@ pub mod CommandFacts
 pub mod JobLemmas
 pub mod NumberLemmas
 pub mod Ranges
-pub mod Required

@@ -29,9 +29,13 @@ file_app name = with_rule (plain name) (needed (codes "FILE"))
 unfoldable pub run_app : Text → App
 run_app name = with_options (file_app name)
 
--- the command NAME FILE SCHEDULE, with options
-unfoldable pub schedule_app : Text → App
-schedule_app name = with_options (with_rule (file_app name) (needed (codes "SCHEDULE")))
+-- the command NAME FILE WORD, with options
+unfoldable pub word_app : Text → Text → App
+word_app name id = with_options (with_rule (file_app name) (needed id))
+
+-- the command load SEED SIZE
+unfoldable pub load_app : App
+load_app = with_rule (with_rule (plain (codes "load")) (needed (codes "SEED"))) (needed (codes "SIZE"))
 
 -- clap takes the words of the command, its name among them
 abbrev pub Takes : App → List Text → Type 0

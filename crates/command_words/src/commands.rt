@@ -57,12 +57,25 @@ pub(crate) fn run_command<'a>(alloc: Global, name: &'a str) -> Result<Command<'a
     with_options(alloc, file_command(alloc, name)?)
 }
 
-/// The command `NAME FILE SCHEDULE`, with options.
-pub(crate) fn schedule_command<'a>(alloc: Global, name: &'a str) -> Result<Command<'a>, AllocError>
-    ensures { IfOk result (λ command. app_of command ≡ commands.schedule_app name.entry.now) }
+/// The command `NAME FILE WORD`, with options.
+pub(crate) fn word_command<'a>(
+    alloc: Global,
+    name: &'a str,
+    id: &'a str,
+) -> Result<Command<'a>, AllocError>
+    ensures { IfOk result (λ command. app_of command ≡ commands.word_app name.entry.now id.entry.now) }
 {
-    let command = file_command(alloc, name)?.arg(needed(alloc, "SCHEDULE"))?;
+    let command = file_command(alloc, name)?.arg(needed(alloc, id))?;
     with_options(alloc, command)
+}
+
+/// The command `load SEED SIZE`.
+pub(crate) fn load_command<'a>(alloc: Global) -> Result<Command<'a>, AllocError>
+    ensures { IfOk result (λ command. app_of command ≡ commands.load_app) }
+{
+    let command = plain(alloc, "load").arg(needed(alloc, "SEED"))?;
+    let command = command.arg(needed(alloc, "SIZE"))?;
+    Ok(command)
 }
 
 /// What clap makes of the words of a simple command, its name among them.

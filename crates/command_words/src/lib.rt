@@ -10,7 +10,9 @@ mod numbers;
 mod tests;
 
 use bsan_ids::NoMemory;
-pub use jobs::{Job, NativeRun, ScheduledRun, Settings, read_job};
+pub use jobs::{
+    HeldRun, Job, LoadRun, NativeJob, NativeRun, RecordCheck, ScheduledRun, Settings, read_job,
+};
 use std::alloc::AllocError;
 
 /// Why the words ask for nothing.

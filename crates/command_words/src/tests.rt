@@ -1,4 +1,4 @@
-use crate::{Job, ScheduledRun, Settings, WordsFault, read_job};
+use crate::{Job, LoadRun, NativeRun, ScheduledRun, Settings, WordsFault, read_job};
 use std::alloc::{AllocError, Global};
 use std::test::Fail;
 
@@ -20,6 +20,13 @@ fn told_run(alloc: Global, name: &str, run: &ScheduledRun<'_>) -> Result<String,
     format!(in alloc; "{name} {file} {settings} {picks} {last}")
 }
 
+/// A run on native threads: the file, the input and the limits.
+fn told_native(alloc: Global, name: &str, run: &NativeRun<'_>) -> Result<String, AllocError> {
+    let file = run.file;
+    let settings = told_settings(alloc, &run.settings)?;
+    format!(in alloc; "{name} {file} {settings}")
+}
+
 /// What the words of a line ask for, which are separated by single blanks.
 fn told(alloc: Global, line: &str) -> Result<String, AllocError> {
     let mut words = Vec::new(alloc);
@@ -30,12 +37,22 @@ fn told(alloc: Global, line: &str) -> Result<String, AllocError> {
         Ok(Job::Check { file }) => format!(in alloc; "check {file}"),
         Ok(Job::Instrument { file }) => format!(in alloc; "instrument {file}"),
         Ok(Job::Replay(run)) => told_run(alloc, "replay", &run),
-        Ok(Job::Run(run)) => {
-            let file = run.file;
-            let settings = told_settings(alloc, &run.settings)?;
-            format!(in alloc; "run {file} {settings}")
-        }
+        Ok(Job::Run(run)) => told_native(alloc, "run", &run),
+        Ok(Job::Load(LoadRun { seed, size })) => format!(in alloc; "load {seed} {size}"),
         Ok(Job::Races(run)) => told_run(alloc, "races", &run),
+        Ok(Job::Record(run)) => told_native(alloc, "record", &run),
+        Ok(Job::Recheck(check)) => {
+            let file = check.file;
+            let record_file = check.record_file;
+            let settings = told_settings(alloc, &check.settings)?;
+            format!(in alloc; "recheck {file} {record_file} {settings}")
+        }
+        Ok(Job::Hush(run)) => {
+            let file = run.file;
+            let rules = run.rules;
+            let settings = told_settings(alloc, &run.settings)?;
+            format!(in alloc; "hush {file} {rules} {settings}")
+        }
         Ok(Job::Explain(run)) => told_run(alloc, "explain", &run),
         Err(WordsFault::Refused) => String::from_str(alloc, "refused"),
         Err(WordsFault::NoMemory) => String::from_str(alloc, "no memory"),
@@ -84,10 +101,28 @@ fn words_are_read(rt: HostRuntime) -> Result<(), Fail> {
             "run --turns=3 run --input q --steps 2 --allocs 1",
             "run run q 2 3 1",
         ),
+        ("load 7 1000", "load 7 1000"),
+        ("load 4294967295 10000", "load 4294967295 10000"),
+        ("load 0000000000 00001", "load 0 1"),
         ("races p 0,1", "races p none 1000000 10000000 65536 2 1"),
         (
             "races 3 --input=races --allocs 9 --turns=8 --steps 7 1023",
             "races 3 races 7 8 9 1 1023",
+        ),
+        ("record p", "record p none 1000000 10000000 65536"),
+        (
+            "record --steps=4 record --input i",
+            "record record i 4 10000000 65536",
+        ),
+        ("recheck p r", "recheck p r none 1000000 10000000 65536"),
+        (
+            "recheck --allocs 9 recheck --input=i p",
+            "recheck recheck p i 1000000 10000000 9",
+        ),
+        ("hush p r", "hush p r none 1000000 10000000 65536"),
+        (
+            "hush p --turns=3 --input q hush --steps 2",
+            "hush p hush q 2 3 65536",
         ),
         ("explain p 0,7", "explain p none 1000000 10000000 65536 2 7"),
         (
@@ -145,11 +180,31 @@ fn words_are_read(rt: HostRuntime) -> Result<(), Fail> {
         "replay p 1 2",
         "replay p +1",
         "replay p 1;2",
+        "load",
+        "load 1",
+        "load 1 0",
+        "load 1 10001",
+        "load 1 000001",
+        "load 4294967296 1",
+        "load 00000000001 1",
+        "load -1 1",
+        "load 1 +1",
+        "load 1 1 1",
+        "load 1 1 --steps 5",
         "races p",
         "races p 0,1 --input",
         "races p 1,1024",
         "races p 1,",
         "race p 1",
+        "record",
+        "record p 0",
+        "record p --turns 0",
+        "recheck p",
+        "recheck p r s",
+        "recheck p r --allocs 65537",
+        "hush p",
+        "hush p r --steps",
+        "hush p r 0",
         "explain p",
         "explain p 0,",
         "explain p 0 --allocs 65537",

@@ -1,13 +1,9 @@
-use Rattle.std.proofs.Common.{◌∙◌, sym, ap, codes, rules}
-use Rattle.std.specs.Option.{option_map}
-use Rattle.clap.specs.Words.{found_of}
-use Rattle.clap.proofs.CallerLemmas.{some_of_text}
-use Rattle.clap.proofs.WalkLemmas.{first_value-rows}
+use Rattle.std.proofs.Common.{◌∙◌, sym, rules}
+use Rattle.clap.specs.Words.{found_of, rows_of}
 use Rattle.command_words.specs.Commands.{file_app}
 use Rattle.command_words.specs.Jobs.{file_of}
 use Rattle.command_words.proofs.CommandFacts.{file_command_readable}
 use Rattle.command_words.proofs.JobLemmas.{taken_at, refused_at}
-use Rattle.command_words.proofs.Required.{given, file_needed}
 use Rattle.command_words.proofs.jobs.read_file.Goals as goal
 
 pub matched-requires : goal.matched-requires
@@ -17,13 +13,14 @@ pub returns-in_err-matches-clause-refused : goal.returns-in_err-matches-clause-r
 returns-in_err-matches-clause-refused c =
     λ is. refused_at (file_app c.args.name.now) _ file_of _ c.in_ok-file_command.ensures (c.matched.ensures.refused (search rules))
 
-pub unwrap-requires : goal.unwrap-requires
-unwrap-requires c =
-    some_of_text (λ s. s.now) c.get_str.result _ (c.get_str.ensures ∙ first_value-rows (found_of c.in_ok-matches.matches) (codes "FILE"))
-    (given c.in_ok-file_command.field-0 c.in_ok-matches.matches (file_app c.args.name.now) (codes "FILE") c.in_ok-file_command.ensures
-    (file_needed c.args.name.now) c.in_ok-matches.ensures.parsed)
+pub returns-in-Some-clause-file : goal.returns-in-Some-clause-file
+returns-in-Some-clause-file c =
+    taken_at (file_app c.args.name.now) _ file_of _ (rows_of (found_of c.in_ok-matches.matches)) c.in_ok-file_command.ensures
+    c.in_ok-matches.ensures.taken c.in_ok-matches.ensures.rows
+    ∙ sym c.in-Some.ensures
 
-pub returns-clause-file : goal.returns-clause-file
-returns-clause-file c =
-    taken_at (file_app c.args.name.now) _ file_of _ _ c.in_ok-file_command.ensures c.in_ok-matches.ensures.taken c.in_ok-matches.ensures.rows
-    ∙ (sym (c.get_str.ensures ∙ first_value-rows (found_of c.in_ok-matches.matches) (codes "FILE")) ∙ ap (option_map (λ s. s.now)) c.unwrap.ensures)
+pub returns-clause-refused : goal.returns-clause-refused
+returns-clause-refused c =
+    λ is. taken_at (file_app c.args.name.now) _ file_of _ (rows_of (found_of c.in_ok-matches.matches)) c.in_ok-file_command.ensures
+    c.in_ok-matches.ensures.taken c.in_ok-matches.ensures.rows
+    ∙ sym c.in-None.ensures
