@@ -4,3 +4,4 @@ pub mod Tie
 pub mod Tried
 pub mod Text
 pub mod Sound
+pub mod Mains
