@@ -94,7 +94,7 @@ module _ (x : Setting) (limits : Limits) (hosts : HostTable) (before : List Seen
   ask_host = by_ask a s.asks
     where
       by_ask : (b : Ask) → b ≡ source_ask x now → AsksHostOf hosts b
-      by_ask (ask.Host n c d) is = host_there x limits hosts s.way.ready now n c d stands.joins (sym is)
+      by_ask (ask.Host n c d) is = host_there x limits hosts s.way.runnable s.way.ranges now n c d stands.joins (sym is)
       by_ask _ is = tt
 
   -- the thread isn't waiting

@@ -11,13 +11,8 @@ use Rattle.history.specs.declared.log.End.{End}
 use Rattle.history.specs.declared.log.End.TheVariants as log_end
 use Rattle.history.specs.declared.log.ThreadLog.{ThreadLog}
 use Rattle.history.specs.Histories.{fits, HasBytes}
-use Rattle.ir_ast.specs.Numbers.{host_names}
-use Rattle.ir_ast.specs.Programs.{IsProgram}
-use Rattle.ir_ast.specs.Tokens.{Each}
-use Rattle.ir_ast.specs.declared.hosts.HostTable.{HostTable}
 use Rattle.ir_ast.specs.declared.program.Function.{Function}
 use Rattle.ir_ast.specs.declared.types.Ty.{Ty}
-use Rattle.ir_rules.specs.Rules.{IsAccepted}
 use Rattle.runs.specs.Parts.{Has, child_of, IsOnNumber}
 use Rattle.source_runs.specs.Invariant.{ResultFits, SourceFits, StartsWell}
 use Rattle.source_sem.specs.Joining.{ThreadStands}
@@ -39,13 +34,6 @@ answered v e = record { setting = v.setting; state = source_answer v.setting v.s
 
 abbrev pub child_view : ThreadView → ThreadView
 child_view v = record { setting = v.setting; state = source_child v.setting v.state }
-
--- the program is accepted with these host functions, and its input is one of bytes
-pub record IsRunnable (x : Setting) (hosts : HostTable) : Type 0 where
-  pub program : IsProgram x.program
-  pub accepted : IsAccepted x.program hosts
-  pub names : x.hosts ≡ host_names hosts.entries
-  pub input : Each (λ b. b < 256) x.input
 
 -- the type of a function's result
 abbrev pub result_in : Option Function → Option Ty

@@ -1,6 +1,5 @@
 //! Programs with a native thread for each of their threads, and their reports.
 ghost use Rattle.std.specs.Prelude.{◌<◌, length};
-ghost use Rattle.alloc_space.specs.Spaces.{AreLimits};
 ghost use Rattle.hosts.specs.Rules.{IsAnswer};
 ghost use Rattle.hosts.specs.Standard.{standard_table};
 
@@ -15,9 +14,7 @@ use std::sync::Wait;
 use std::test::Fail;
 use std::thread::Threads;
 
-fn limits() -> Limits
-    ensures { AreLimits result }
-{
+fn limits() -> Limits {
     Limits {
         steps: 100_000,
         turns: 1_000_000,
