@@ -17,7 +17,7 @@ use Rattle.source_sem.specs.Source.{Setting, Source, source, source_ask}
 use Rattle.core_model.specs.declared.run.Pick.TheVariants as pick
 use Rattle.core_model.specs.Fibers.{Seen}
 use Rattle.core_model.specs.Running.{Played, UnderWay, Settled, PickedAs, fiber_in}
-use Rattle.core_model.specs.Turns.{IsHalt, AsksJoin}
+use Rattle.instr_sound.specs.Settling.{IsHalt, AsksJoin}
 use Rattle.core_model.proofs.Choosing.{Held, got_map, was_going, end_pick}
 use Rattle.core_model.proofs.Coming.{AllStand, all_stand}
 

@@ -33,7 +33,8 @@ use Rattle.source_sem.specs.Traps.{EndIsOwn}
 use Rattle.source_sem.proofs.RequestLaws.{requests_fit}
 use Rattle.source_sem.proofs.TrapLaws.{traps_are_own}
 use Rattle.core_model.specs.declared.run.Pick.TheVariants as pick
-use Rattle.core_model.specs.Ends.{machine_end, pick_of}
+use Rattle.instr_sound.specs.Settling.{machine_end}
+use Rattle.core_model.specs.Ends.{pick_of}
 use Rattle.core_model.specs.Fibers.{Seen, EndsStep, answered, first_seen}
 use Rattle.core_model.specs.Running.{Played, UnderWay, PickedAs, Settled, fiber_in}
 use Rattle.core_model.specs.Steps.{IsStep, JoinsStep, IsAllowed, AsksHostOf}

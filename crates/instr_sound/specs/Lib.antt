@@ -5,3 +5,4 @@ pub mod Tried
 pub mod Text
 pub mod Sound
 pub mod Mains
+pub mod Settling

@@ -3,8 +3,6 @@ use Rattle.std.specs.Prelude.{◌≡◌, ℕ, ◌<◌, ◌^◌, ◌⊎◌, true,
 use Rattle.std.specs.declared.option.Option.{Option}
 use Rattle.history.specs.declared.ask.Ask.{Ask}
 use Rattle.history.specs.declared.ask.Ask.TheVariants as ask
-use Rattle.history.specs.declared.ask.MachineEnd.{MachineEnd}
-use Rattle.history.specs.declared.ask.MachineEnd.TheVariants as end
 use Rattle.history.specs.declared.entry.Entry.{Entry}
 use Rattle.history.specs.declared.entry.Request.TheVariants as request
 use Rattle.history.specs.declared.log.End.{End}
@@ -73,11 +71,6 @@ StepFits hosts (ask.At a r) = IsOnNumber r × (fits r ≡ true) × HasBytes r
 StepFits hosts (ask.Make size place) = fits (request.Make size place) ≡ true
 StepFits hosts (ask.Host n x y) = (n < hosts) × (x < 2 ^ 64) × (y < 2 ^ 64)
 StepFits hosts other = Unit {0}
-
--- how a log tells the end of its thread's own
-abbrev pub ended_as : MachineEnd → End
-ended_as (end.Returned w p) = log_end.Returned w p
-ended_as (end.Trapped t) = log_end.Trapped t
 
 -- a thread that returned has returned a value of its function's result
 abbrev pub EndFits : Setting → ℕ → End → Type 0

@@ -13,16 +13,15 @@ ghost use Rattle.interp.specs.Advanced.{Advanced, IsOngoing};
 ghost use Rattle.interp.specs.Came.{AsksPlainly};
 ghost use Rattle.interp.specs.Desks.{Over, IsReady};
 ghost use Rattle.interp.specs.Running.{view_of, below_of, own_roots_of, IsGoing, IsThere, GoesOn, HasEnded, CameTo, Waits, IsReserved, IsSameThread, IsBegun, IsFirst, IsPromiseOf};
-ghost use Rattle.interp.specs.Views.{ended_as, child_view};
+ghost use Rattle.interp.specs.Views.{child_view};
 
 use crate::calls::HostCalls;
 use crate::child::{Begun, Child, TreeOf};
-use crate::settle::{Halt, settle};
 use crate::step::{Came, step};
 use alloc_space::{Desk, Space, Stepped};
 use bsan_ids::{ListOf, NoMemory, Prov, ThreadNo};
-use history::{Ask, End, Entry, MachineEnd, Plain, Reply, Request, ThreadLog, Trap, Verdict};
-use instr_sound::Thread;
+use history::{Ask, End, Entry, Plain, Reply, Request, ThreadLog, Trap, Verdict};
+use instr_sound::{Thread, end_by, settle};
 use ir_ast::HostTable;
 use outside_io::Gate;
 use run_record::ThreadTree;
@@ -46,16 +45,6 @@ pub struct Running<T: Thread> {
     pub began: Snapshot<T>,
     pub start: Snapshot<Desk>,
     pub hosts: Snapshot<HostTable>,
-}
-
-// The end of a log whose thread has ended so.
-fn ended(end: MachineEnd) -> End
-    ensures { result ≡ ended_as end }
-{
-    match end {
-        MachineEnd::Returned { value, carried } => End::Returned { value, carried },
-        MachineEnd::Trapped(trap) => End::Trapped(trap),
-    }
 }
 
 /// What a thread has come to.
@@ -132,12 +121,11 @@ impl<T: Thread> Running<T> {
         let limits = space.limits();
         let ask = match settle(&mut self.machine, limits.turns) {
             Ok(ask) => ask,
-            Err(Halt::TurnLimit) => return Ok(Some(End::TurnLimit)),
-            Err(Halt::NoMemory) => return Ok(Some(End::NoMemory)),
+            Err(why) => return Ok(Some(why)),
         };
         match ask {
             Ask::Turn => unreachable!(),
-            Ask::Ended(end) => Ok(Some(ended(end))),
+            Ask::Ended(end) => Ok(Some(end_by(end))),
             Ask::Spawn { function } => Err(Ask::Spawn { function }),
             Ask::Join { child } => Err(Ask::Join { child }),
             step => Ok(self.make_step(rt, space, gate, hosts, step)),
