@@ -16,6 +16,7 @@ use Rattle.history.specs.Objects.{Object, unmade, answer}
 use Rattle.ir_ast.specs.declared.types.Place.{Place}
 use Rattle.history.specs.declared.log.AllocLog.{AllocLog}
 use Rattle.history.specs.declared.log.End.TheVariants.{Trapped, StepLimit, NoMemory}
+use Rattle.runs.specs.ReplayLaw.{with_history}
 use Rattle.run_memory.specs.declared.states.Step.{Step}
 use Rattle.run_memory.specs.declared.states.Step.TheVariants.{Done, Ends}
 
