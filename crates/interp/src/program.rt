@@ -1,6 +1,7 @@
 //! A whole run.
 ghost use Rattle.std.specs.Prelude.{◌≡◌, IfOk, IsPermutation, OnOk, OnErr};
 ghost use Rattle.std.specs.List.Sorted.{IsNonDecreasingBy};
+ghost use Rattle.alloc_space.specs.Spaces.{AreCountable};
 ghost use Rattle.history.specs.Records.{empty_record};
 ghost use Rattle.source_sem.specs.Records.{IsRightRecord};
 ghost use Rattle.instr_sound.specs.Mains.{IsMain};
@@ -41,6 +42,7 @@ fn whole_run<T: Thread + Send, R: Threads + Wait + Sync, G: Gate + Sync>(
     hosts: &Hosts,
 ) -> Result<RunRecord, NoMemory>
     requires main { IsMain T.setting T.state hosts.now.table function machine }
+    requires limits { AreCountable limits.now }
     ensures { IfOk result (IsRightRecord (T.setting machine).program (T.setting machine).input hosts.now.table limits.now) }
 {
     let (space, desk) = Space::new(alloc, limits)?;
@@ -78,6 +80,7 @@ pub fn run_program<T: Thread + Send, R: Threads + Wait + Sync, G: Gate + Sync>(
     kept: &mut RunRecord,
 ) -> Result<(), NoMemory>
     requires main { IsMain T.setting T.state hosts.now.table function machine }
+    requires limits { AreCountable limits.now }
     ensures right { OnOk result (IsRightRecord (T.setting machine).program (T.setting machine).input hosts.now.table limits.now kept.new) }
     ensures empty { OnErr result (kept.new ≡ empty_record) }
 {

@@ -1,5 +1,5 @@
 //! A native thread between its steps.
-ghost use Rattle.std.specs.Prelude.{◌≡◌, ℕ, ◌+◌, ◌^◌, ◌<◌, ◌≤◌, ◌≢◌, Option, Some, None, All, IfOk, IfErr, IfSome, IfNone, true, vec_len, vec_capacity, slice_index_or};
+ghost use Rattle.std.specs.Prelude.{◌≡◌, ℕ, ◌+◌, ◌<◌, ◌≤◌, ◌≢◌, Option, Some, None, All, IfOk, IfErr, IfSome, IfNone, true, vec_len, vec_capacity, slice_index_or};
 ghost use Rattle.history.specs.declared.ask.Ask.TheVariants.{Spawn, Join};
 ghost use Rattle.history.specs.declared.log.ThreadLog.{ThreadLog as Log};
 ghost use Rattle.history.specs.declared.log.End.TheVariants.{Returned};
@@ -8,6 +8,7 @@ ghost use Rattle.runs.specs.Threads.{AsksSpawn};
 ghost use Rattle.runs.specs.Tree.{HasStopped};
 ghost use Rattle.runs.specs.Machine.{MayGoOn};
 ghost use Rattle.source_sem.specs.Source.{source, source_ask};
+ghost use Rattle.alloc_space.specs.Spaces.{AreCountable};
 ghost use Rattle.interp.specs.Answers.{IsAnswer};
 ghost use Rattle.interp.specs.Advanced.{Advanced, IsOngoing};
 ghost use Rattle.interp.specs.Came.{AsksPlainly};
@@ -67,7 +68,7 @@ impl<T: Thread> Running<T> {
     ) -> Option<End>
         requires on { GoesOn T.setting T.state space.now self.old }
         requires hosts { self.old.hosts.value ≡ H.table hosts.now }
-        requires numbers { space.now.limits.allocs < 2 ^ 32 }
+        requires countable { AreCountable space.now.limits }
         requires asks { ask ≡ source_ask (T.setting self.old.machine) (T.state self.old.machine) }
         requires may { MayGoOn (source (T.setting self.old.machine)) space.now.limits.turns (T.state self.old.machine) }
         requires step { AsksPlainly ask }

@@ -1,5 +1,6 @@
 //! Programs with a native thread for each of their threads, and their reports.
 ghost use Rattle.std.specs.Prelude.{◌<◌, length};
+ghost use Rattle.alloc_space.specs.Spaces.{AreCountable};
 ghost use Rattle.hosts.specs.Rules.{IsAnswer};
 ghost use Rattle.hosts.specs.Standard.{standard_table};
 
@@ -14,7 +15,9 @@ use std::sync::Wait;
 use std::test::Fail;
 use std::thread::Threads;
 
-fn limits() -> Limits {
+fn limits() -> Limits
+    ensures { AreCountable result }
+{
     Limits {
         steps: 100_000,
         turns: 1_000_000,

@@ -4,8 +4,8 @@ use Rattle.instr_sound.specs.Sound.{text_of}
 use Rattle.source_runs.proofs.Reporting.{right_records_are_reportable}
 use Rattle.run_examples.proofs.running.record_of.Goals as goal
 
-pub run_program-requires : goal.run_program-requires
-run_program-requires g c κs within =
+pub run_program-requires-clause-main : goal.run_program-requires-clause-main
+run_program-requires-clause-main g c κs within =
     stands_at_main c.in-Ok-verify.verified c.in_ok-target.target [] c.args.hosts.now.table c.in_ok-main.main c.in_ok-main.machine
     c.in_ok-main.ensures.number c.in_ok-main.ensures.machine (sym (c.in-Ok-verify.ensures.ok.1 ∙ c.table.ensures)) (λ i. omega arith)
 
