@@ -56,7 +56,7 @@ fn main(rt: HostRuntime) -> ExitCode {
     };
     let hosts = Hosts::new(table, answerer);
     let mut files = RealFiles::new(&rt);
-    let mut out = RealSink::new(&rt);
+    let mut out = RealSink::new(io::writer(&rt));
     let mut kept = RunRecord::new(rt.alloc());
     let status = bsan(
         &rt,
