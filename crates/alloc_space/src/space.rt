@@ -4,7 +4,7 @@ ghost use Rattle.turn_lock.specs.Rule.{newcomer};
 ghost use Rattle.turn_lock.specs.Steps.{parted, child_of, joins};
 ghost use Rattle.turn_lock.specs.Closing.{AreCounts, AreBlank, IsWhole};
 ghost use Rattle.alloc_state.specs.Log.{Log};
-ghost use Rattle.alloc_space.specs.Spaces.{AreLimits};
+ghost use Rattle.alloc_space.specs.Spaces.{AreCountable};
 
 use alloc_state::AllocState;
 use bsan_ids::{AllocNo, Counters, Limits, NoMemory, ThreadNo};
@@ -60,7 +60,7 @@ impl Space {
     /// A space with a state for each number from 1 to the limit, none of them made, and its first
     /// desk, which has the name 0 and nothing else.
     pub fn new(alloc: Global, limits: &Limits) -> Result<(Space, Desk), NoMemory>
-        requires { AreLimits limits.now }
+        requires { AreCountable limits.now }
         ensures limits { IfOk result (λ r. r.0.limits ≡ limits.now) }
         ensures desk { IfOk result (λ r. r.1 ≡ record { table = r.0.table; view = newcomer 0 0 [] }) }
     {
@@ -79,7 +79,7 @@ impl Space {
     /// The limits with which it was made.
     pub fn limits(&self) -> &Limits
         ensures value { result.now ≡ self.now.limits }
-        ensures ranges { AreLimits result.now }
+        ensures countable { AreCountable result.now }
     {
         &self.limits
     }

@@ -1,6 +1,6 @@
 //! One thread within small limits, and two threads on one allocation.
 ghost use Rattle.std.specs.Prelude.{◌≡◌, ◌≤◌, All, None, IfOk, OnOk, IfSome};
-ghost use Rattle.alloc_space.specs.Spaces.{AreLimits};
+ghost use Rattle.alloc_space.specs.Spaces.{AreCountable};
 ghost use Rattle.alloc_space.specs.Tried.{AreParentAndChild, IsFirstDesk, IsOpen, IsPlain, IsSameDesk, MayStore};
 
 use crate::{Desk, Made, Space, Stepped};
@@ -39,7 +39,7 @@ fn load() -> Request
 
 // A space with one allocation, its first desk, and the entry of the Make.
 fn with_one<R: Wait>(rt: &R, alloc: Global, limits: &Limits) -> Result<(Space, Desk, Entry), Fail>
-    requires { AreLimits limits.now }
+    requires { AreCountable limits.now }
     ensures open { IfOk result (λ r. IsOpen r.0 r.1) }
     ensures allocs { IfOk result (λ r. All (λ n. n ≤ r.0.limits.allocs) r.1.view.allocs.own) }
 {

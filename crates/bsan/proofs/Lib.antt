@@ -1,6 +1,5 @@
 pub mod Found
 pub mod Limits
-pub mod Mains
 pub mod Legal
 pub mod Reportable
 pub mod Complete

@@ -1,4 +1,5 @@
 pub mod Commands
+pub mod Refusals
 pub mod Numbers
 pub mod Schedules
 pub mod Jobs

@@ -2,6 +2,7 @@
 ghost use Rattle.std.specs.Prelude.{◌≡◌, map, string_bytes, false, codes, IfOk, OnOk, IsErrOf};
 ghost use Rattle.clap.specs.Words.{app_of, found_of, matches_of, rows_of, rule_of, with_rule, IsParsedFrom};
 ghost use Rattle.command_words.specs.Commands as commands;
+ghost use Rattle.command_words.specs.Refusals.{refused_by};
 
 use crate::WordsFault;
 use clap::error::ErrorKind;
@@ -94,9 +95,16 @@ pub(crate) fn matched<'a>(
 {
     match command.try_get_matches_from(words) {
         Ok(matches) => Ok(matches),
-        Err(error) => match error.kind() {
-            ErrorKind::OutOfMemory => Err(WordsFault::NoMemory),
-            _ => Err(WordsFault::Refused),
-        },
+        Err(error) => Err(fault_of(error.kind())),
+    }
+}
+
+/// Why words ask for nothing, where clap answers with an error of this kind.
+fn fault_of(kind: ErrorKind) -> WordsFault
+    ensures { result ≡ refused_by kind }
+{
+    match kind {
+        ErrorKind::OutOfMemory => WordsFault::NoMemory,
+        _ => WordsFault::Refused,
     }
 }

@@ -6,6 +6,7 @@ ghost use Rattle.std.specs.Prelude.{◌≡◌};
 mod commands;
 mod jobs;
 mod numbers;
+mod program_words;
 #[cfg(test)]
 mod tests;
 
@@ -13,6 +14,7 @@ use bsan_ids::NoMemory;
 pub use jobs::{
     HeldRun, Job, LoadRun, NativeJob, NativeRun, RecordCheck, ScheduledRun, Settings, read_job,
 };
+pub use program_words::words_of;
 use std::alloc::AllocError;
 
 /// Why the words ask for nothing.

@@ -104,15 +104,15 @@ module _ (x : Setting) (limits : Limits) (hosts : HostTable) (before : List Seen
   pub got : slice_get p.threads t ≡ Some fib
   got = ap (λ l. slice_get l t) s.way.shows.threads ∙ got_map (fiber_in x) before t f s.at
 
-  stand : AllStand x limits hosts s.way.ready p
-  stand = all_stand x limits hosts s.way.ready p s.way.came
+  stand : AllStand x limits hosts s.way.runnable s.way.ranges p
+  stand = all_stand x limits hosts s.way.runnable s.way.ranges p s.way.came
 
   pub now_stands : StateStands x limits.turns t (length p.threads) now
-  now_stands = stands_settled x limits.turns (join_lawful x limits hosts s.way.ready) t (length p.threads) f.state now s.turned (stand.states t fib got)
+  now_stands = stands_settled x limits.turns (join_lawful x limits hosts s.way.runnable s.way.ranges) t (length p.threads) f.state now s.turned (stand.states t fib got)
 
   -- what it asks to write is of bytes
   pub asks_here : (b : AllocNo) (r : Request) → source_ask x now ≡ ask.At b r → HasBytes r
-  asks_here b r asked = asks_bytes x limits hosts s.way.ready p t fib now stand.kept got s.turned b r asked
+  asks_here b r asked = asks_bytes x limits hosts s.way.runnable s.way.ranges p t fib now stand.kept got s.turned b r asked
 
   -- it stood below its limit
   pub was_going : MayGoOn (source x) limits.turns f.state
@@ -165,7 +165,8 @@ module _ (x : Setting) (limits : Limits) (hosts : HostTable) (before : List Seen
         q,
         inl (now, why, record { fiber = fib; at = got; can = can; chosen = chosen; is = refl }),
         record {
-          ready = s.way.ready;
+          runnable = s.way.runnable;
+          ranges = s.way.ranges;
           shows = record {
             settings = λ u h at. settings_set (ended why) refl u h (subst (λ l. slice_get l u ≡ Some h) is at);
             threads = threads_set (ended why) ∙ ap (map (fiber_in x)) (sym is);
@@ -173,7 +174,7 @@ module _ (x : Setting) (limits : Limits) (hosts : HostTable) (before : List Seen
             words = stays.words_are ∙ ap (λ w. drawn_by_end w (source_ask x now) why) s.way.shows.words;
             logs = λ a. stays.logs a ∙ s.way.shows.logs a;
           };
-          came = came_on x limits hosts s.way.ready p q t s.way.came (inr (fib, Ends now why, got, can, chosen, refl));
+          came = came_on x limits hosts s.way.runnable s.way.ranges p q t s.way.came (inr (fib, Ends now why, got, can, chosen, refl));
         },
       )
 
@@ -201,7 +202,8 @@ module _ (x : Setting) (limits : Limits) (hosts : HostTable) (before : List Seen
             q,
             inr (now, record { fiber = fib; at = got; can = can; chosen = chosen; is = refl }),
             record {
-              ready = s.way.ready;
+              runnable = s.way.runnable;
+              ranges = s.way.ranges;
               shows = record {
                 settings = λ u h at. settings_set g refl u h (subst (λ l. slice_get l u ≡ Some h) is at);
                 threads = threads_set g ∙ ap (map (fiber_in x)) (sym is);
@@ -209,7 +211,7 @@ module _ (x : Setting) (limits : Limits) (hosts : HostTable) (before : List Seen
                 words = s.way.shows.words;
                 logs = s.way.shows.logs;
               };
-              came = came_on x limits hosts s.way.ready p q t s.way.came (inr (fib, Waits now, got, can, chosen, refl));
+              came = came_on x limits hosts s.way.runnable s.way.ranges p q t s.way.came (inr (fib, Waits now, got, can, chosen, refl));
             },
           )
 
@@ -369,7 +371,7 @@ module _ (x : Setting) (limits : Limits) (hosts : HostTable) (before : List Seen
       )
 
       pub entry_fits : source_fits x now e
-      entry_fits = chosen_fits x limits hosts s.way.ready p t fib now e (Some log_end.NoMemory) stand.kept got (step_chosen (Some log_end.NoMemory) (tt, tt))
+      entry_fits = chosen_fits x limits hosts s.way.runnable s.way.ranges p t fib now e (Some log_end.NoMemory) stand.kept got (step_chosen (Some log_end.NoMemory) (tt, tt))
 
       -- it rests as the code says
       rests_as : (over : Option End) → Rests x limits (source_answer x now e.reply) over → RestsAs (source x) limits (source_answer x now e.reply) over
@@ -389,7 +391,8 @@ module _ (x : Setting) (limits : Limits) (hosts : HostTable) (before : List Seen
             q,
             by_end over (record { fiber = fib; at = got; can = can; chosen = chosen; is = refl }),
             record {
-              ready = s.way.ready;
+              runnable = s.way.runnable;
+              ranges = s.way.ranges;
               shows = record {
                 settings = λ u h at. by_part u h (got_either (slice_set before t (g over)) more u h (subst (λ l. slice_get l u ≡ Some h) is at));
                 threads = ap (λ l. l ++ new_fibers (source x) t (source_child x now) e.request) (threads_set (g over)) ∙ ap (λ l. map (fiber_in x) (slice_set before t (g over)) ++ l) (sym child) ∙ sym (map-append (fiber_in x) (slice_set before t (g over)) more) ∙ ap (map (fiber_in x)) (sym is);
@@ -397,7 +400,7 @@ module _ (x : Setting) (limits : Limits) (hosts : HostTable) (before : List Seen
                 words = facts.words;
                 logs = facts.logs;
               };
-              came = came_on x limits hosts s.way.ready p q t s.way.came (inr (fib, Steps now e over, got, can, chosen, refl));
+              came = came_on x limits hosts s.way.runnable s.way.ranges p q t s.way.came (inr (fib, Steps now e over, got, can, chosen, refl));
             },
           )
         where

@@ -38,7 +38,8 @@ use Rattle.source_sem.specs.Starting.{main_of, main_start}
 use Rattle.source_sem.specs.Traps.{PlainIsOwn}
 use Rattle.source_sem.proofs.JoinSteps.{join_law}
 use Rattle.source_sem.proofs.Stepping.{instructions_count}
-use Rattle.core_model.specs.Running.{Runnable, Played, Came}
+use Rattle.instr_sound.specs.Mains.{IsRunnable}
+use Rattle.core_model.specs.Running.{AreLimits, Played, Came}
 use Rattle.core_model.proofs.Standing.{StateStands, lt_of, stands_more, stands_settled, stands_after, stands_child, stands_start}
 
 -- no step is answered by the end of a limit on numbers
@@ -55,7 +56,7 @@ goes_on : (x : Setting) (limits : Limits) (s : Source) (over : Option End) → R
 goes_on x limits s None rests is within begins = lt_of s.count limits.turns within (λ full. (let z : log_end.TurnLimit ≡ log_end.NoMemory = rests log_end.TurnLimit tt (begins, full) in cc))
 goes_on x limits s (Some why) rests is within begins = cc
 
-module _ (x : Setting) (limits : Limits) (hosts : HostTable) (r : Runnable x limits hosts) where
+module _ (x : Setting) (limits : Limits) (hosts : HostTable) (r : IsRunnable x hosts) (ranges : AreLimits limits) where
   abbrev A : Allowed
   A = allowed limits hosts
 
@@ -66,7 +67,7 @@ module _ (x : Setting) (limits : Limits) (hosts : HostTable) (r : Runnable x lim
   host_there = accepted_programs_ask x hosts r.accepted (ap (λ (y : Setting). y.hosts) r.setting)
 
   pub fits_always : FitsAlways (source x) objects A (main_start x)
-  fits_always = replies_always_fit x limits hosts r.program r.accepted r.bytes (let few = r.limits_are.few_allocs in omega (arith, few))
+  fits_always = replies_always_fit x limits hosts r.program r.accepted r.bytes (let few = ranges.few_allocs in omega (arith, few))
 
   abbrev pub first : Played x
   first = first_progress (source x) objects (main_of x.program) (main_start x)
@@ -94,7 +95,7 @@ module _ (x : Setting) (limits : Limits) (hosts : HostTable) (r : Runnable x lim
       → (b : AllocNo) (q : Request) → source_ask x now ≡ ask.At b q → HasBytes q
   asks_bytes p t f now k at settles b q asked =
       let s = k.stands.tracks.threads t f at in
-      pieces_are_bytes x limits hosts r.program r.accepted r.bytes (let few = r.limits_are.few_allocs in omega (arith, few)) p.merge k.stands.run t s.0 now s.1
+      pieces_are_bytes x limits hosts r.program r.accepted r.bytes (let few = ranges.few_allocs in omega (arith, few)) p.merge k.stands.run t s.0 now s.1
       (settles_more (source x) s.0 f.state now s.2 (settles_without (source x) limits.turns f.state now settles)) b q asked
 
   pick_kept : (p q : Played x) (t : ℕ) → IsKept p → Picks (source x) objects A limits p t q → IsKept q
@@ -193,7 +194,7 @@ module _ (x : Setting) (limits : Limits) (hosts : HostTable) (r : Runnable x lim
             subst (λ (z : Fiber (source x)). MayGoOn (source x) limits.turns z.state) same
             (goes_on x limits ((source x).after now e) over c.9 (ap (λ (z : Fiber (source x)). z.«end») same ∙ none) after_stands.count)
         by_after (other ne old) = a.going u g old none
-        by_after (new k asked last same) = subst (λ (z : Fiber (source x)). MayGoOn (source x) limits.turns z.state) same (λ begins. (let zero_is = (instructions_count x).child now in let some = r.limits_are.some_turns in omega (arith, zero_is, some)))
+        by_after (new k asked last same) = subst (λ (z : Fiber (source x)). MayGoOn (source x) limits.turns z.state) same (λ begins. (let zero_is = (instructions_count x).child now in let some = ranges.some_turns in omega (arith, zero_is, some)))
 
   pub pick_stands : (p q : Played x) (t : ℕ) → AllStand p → Picks (source x) objects A limits p t q → AllStand q
   pick_stands p q t a (inl passed) = subst AllStand (sym passed.1) a
@@ -242,7 +243,7 @@ module _ (x : Setting) (limits : Limits) (hosts : HostTable) (r : Runnable x lim
       only (suc t) f got = cc
 
       only_going : (t : ℕ) (f : Fiber (source x)) → slice_get first.threads t ≡ Some f → MayGoOn (source x) limits.turns f.state
-      only_going zero f got = subst (λ (z : Fiber (source x)). MayGoOn (source x) limits.turns z.state) (some_inj got) (λ begins. (let none = (instructions_count x).start (main_of x.program) [] in let some = r.limits_are.some_turns in omega (arith, none, some)))
+      only_going zero f got = subst (λ (z : Fiber (source x)). MayGoOn (source x) limits.turns z.state) (some_inj got) (λ begins. (let none = (instructions_count x).start (main_of x.program) [] in let some = ranges.some_turns in omega (arith, none, some)))
       only_going (suc t) f got = cc
 
   plays_stand : (p q : Played x) (ts : List ℕ) → AllStand p → Plays (source x) objects A limits p ts q → AllStand q

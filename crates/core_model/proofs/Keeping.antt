@@ -5,7 +5,7 @@ use Rattle.bsan_ids.specs.declared.numbers.Counters.{Counters}
 use Rattle.bsan_ids.specs.declared.numbers.Limits.{Limits}
 use Rattle.history.specs.declared.entry.Entry.{Entry}
 use Rattle.ir_ast.specs.declared.hosts.HostTable.{HostTable}
-use Rattle.run_memory.specs.Memory.{Memory, log_at, keeps, named_from, with_named, none_drawn}
+use Rattle.run_memory.specs.Memory.{Memory, log_at, keeps, named_from, none_drawn}
 use Rattle.run_memory.proofs.Stepping.{kept_number, beside}
 use Rattle.history.specs.declared.log.AllocLog.{AllocLog}
 use Rattle.history.specs.declared.log.ThreadLog.{ThreadLog}
@@ -22,7 +22,8 @@ use Rattle.bsan_ids.specs.declared.numbers.ThreadNo.{ThreadNo}
 use Rattle.history.specs.declared.log.End.{End}
 use Rattle.core_model.specs.declared.fiber.Fiber.{Fiber}
 use Rattle.core_model.specs.Fibers.{Seen, all_seen}
-use Rattle.core_model.specs.Running.{Runnable, Played, UnderWay, Shows, fiber_in}
+use Rattle.instr_sound.specs.Mains.{IsRunnable}
+use Rattle.core_model.specs.Running.{AreLimits, Played, UnderWay, Shows, fiber_in}
 use Rattle.core_model.specs.Replays.{PlaysAll, PlaysRest}
 use Rattle.core_model.specs.Kept.{seen_log, seen_logs, seen_record, IsOfReplay, Replayed}
 
@@ -38,14 +39,10 @@ logs_same : (x : Setting) (t : ℕ) (fs : List Seen) → seen_logs t fs ≡ logs
 logs_same x t [] = refl
 logs_same x t (f ∷ fs) = ap (λ l. seen_log t f ∷ l) (logs_same x (suc t) fs)
 
-one_same : (a : ℕ) (es : List Entry) (logs : List AllocLog) → with_named a es logs ≡ with_history a es logs
-one_same a [] logs = refl
-one_same a (e ∷ es) logs = refl
-
 -- no entry is past these numbers
 none_named : (a : ℕ) (logs : List (List Entry)) → ((k : ℕ) → unwrap_or (slice_get logs k) [] ≡ []) → named_from a logs ≡ []
 none_named a [] none = refl
-none_named a (es ∷ logs) none = ap (λ l. with_named a l (named_from (suc a) logs)) (none 0) ∙ none_named (suc a) logs (λ k. none (suc k))
+none_named a (es ∷ logs) none = ap (λ l. with_history a l (named_from (suc a) logs)) (none 0) ∙ none_named (suc a) logs (λ k. none (suc k))
 
 named_same : (a more : ℕ) (logs : List (List Entry)) (merge : List Entry)
     → ((k : ℕ) → k < more → unwrap_or (slice_get logs k) [] ≡ of_alloc (a + k) merge) → ((k : ℕ) → more ≤ k → unwrap_or (slice_get logs k) [] ≡ [])
@@ -59,7 +56,7 @@ named_same a (suc more) [] merge inside past =
     (λ k le. refl))
 named_same a (suc more) (es ∷ logs) merge inside past =
     let here : es ≡ of_alloc a merge = inside 0 (omega arith) ∙ ap (λ n. of_alloc n merge) (let z : a + 0 ≡ a = omega arith in z) in
-    one_same a es (named_from (suc a) logs) ∙ ap (λ l. with_history a l (named_from (suc a) logs)) here
+    ap (λ l. with_history a l (named_from (suc a) logs)) here
     ∙ ap (with_history a (of_alloc a merge)) (named_same (suc a) more logs merge
     (λ k less. inside (suc k) (omega (arith, less)) ∙ ap (λ n. of_alloc n merge) (let z : a + suc k ≡ suc a + k = omega arith in z))
     (λ k le. past (suc k) (omega (arith, le))))
@@ -82,7 +79,7 @@ module _ (x : Setting) (limits : Limits) (hosts : HostTable) (F : List Seen) (m 
       ∙ ap (λ (c : Counters). record { threads = logs_from (source x) 0 p.threads; allocs = histories_from 1 limits.allocs p.merge; words = c }) w.words)
 
 -- the run with thread 0 alone
-module _ (x : Setting) (limits : Limits) (hosts : HostTable) (r : Runnable x limits hosts) where
+module _ (x : Setting) (limits : Limits) (hosts : HostTable) (r : IsRunnable x hosts) (ranges : AreLimits limits) where
   abbrev pub first_fiber : Seen
   first_fiber = record { setting = x; parent = None; function = main_of x.program; state = main_start x; entries = []; «end» = None }
 
@@ -97,7 +94,8 @@ module _ (x : Setting) (limits : Limits) (hosts : HostTable) (r : Runnable x lim
 
   pub first_way : UnderWay x limits hosts (first_fiber ∷ []) first_memory (first_progress (source x) objects (main_of x.program) (main_start x))
   first_way = record {
-    ready = r;
+    runnable = r;
+    ranges = ranges;
     shows = record {
       settings = λ t f at. only t f at;
       threads = refl;
@@ -125,17 +123,17 @@ module _ (x : Setting) (limits : Limits) (hosts : HostTable) (r : Runnable x lim
       record {
         replay = own;
         right = subst (λ (k : RunRecord). IsRightRecord x.program x.input hosts limits k) (sym own.is)
-            (replays_leave_right_records x.program x.input hosts limits ts own.last r.program r.accepted r.bytes (let few = r.limits_are.few_allocs in omega (arith, few)) own.replay);
+            (replays_leave_right_records x.program x.input hosts limits ts own.last r.program r.accepted r.bytes (let few = ranges.few_allocs in omega (arith, few)) own.replay);
       }
 
 -- the code's thread 0
-module _ {T : Type 0} (setting : T → Setting) (state : T → Source) (limits : Limits) (hosts : HostTable) (f : Fiber T) (r : Runnable (setting f.thread) limits hosts) where
+module _ {T : Type 0} (setting : T → Setting) (state : T → Source) (limits : Limits) (hosts : HostTable) (f : Fiber T) (r : IsRunnable (setting f.thread) hosts) (ranges : AreLimits limits) where
   pub starts : (items : List (Fiber T)) (m : Memory) → items ≡ f ∷ [] → f.parent ≡ None → f.function ≡ main_of (setting f.thread).program → state f.thread ≡ main_start (setting f.thread)
-      → f.entries.items ≡ [] → f.«end» ≡ None → m ≡ first_memory (setting f.thread) limits hosts r
+      → f.entries.items ≡ [] → f.«end» ≡ None → m ≡ first_memory (setting f.thread) limits hosts r ranges
       → UnderWay (setting f.thread) limits hosts (all_seen setting state items) m (first_progress (source (setting f.thread)) objects (main_of (setting f.thread).program) (main_start (setting f.thread)))
   starts items m items_are parent function start entries none memory =
       let x = setting f.thread in
-      let seen_is : all_seen setting state items ≡ first_fiber x limits hosts r ∷ [] =
+      let seen_is : all_seen setting state items ≡ first_fiber x limits hosts r ranges ∷ [] =
       ap (all_seen setting state) items_are
       ∙ (ap (λ (o : Option ThreadNo). record { setting = x; parent = o; function = f.function; state = state f.thread; entries = f.entries.items; «end» = f.«end» } ∷ []) parent
       ∙ (ap (λ (k : ℕ). record { setting = x; parent = None; function = k; state = state f.thread; entries = f.entries.items; «end» = f.«end» } ∷ []) function
@@ -143,4 +141,4 @@ module _ {T : Type 0} (setting : T → Setting) (state : T → Source) (limits :
       ∙ (ap (λ (es : List Entry). record { setting = x; parent = None; function = main_of x.program; state = main_start x; entries = es; «end» = f.«end» } ∷ []) entries
       ∙ ap (λ (o : Option End). record { setting = x; parent = None; function = main_of x.program; state = main_start x; entries = []; «end» = o } ∷ []) none)))) in
       subst (λ l. UnderWay x limits hosts l m (first_progress (source x) objects (main_of x.program) (main_start x))) (sym seen_is)
-      (subst (λ n. UnderWay x limits hosts (first_fiber x limits hosts r ∷ []) n (first_progress (source x) objects (main_of x.program) (main_start x))) (sym memory) (first_way x limits hosts r))
+      (subst (λ n. UnderWay x limits hosts (first_fiber x limits hosts r ranges ∷ []) n (first_progress (source x) objects (main_of x.program) (main_start x))) (sym memory) (first_way x limits hosts r ranges))

@@ -10,4 +10,3 @@ pub mod SeenLists
 pub mod Settling
 pub mod Resting
 pub mod Keeping
-pub mod Ready

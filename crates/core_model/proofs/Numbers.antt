@@ -52,9 +52,9 @@ module _ (M : Machine) where
 
 pub has_numbers : (x : Setting) (limits : Limits) (hosts : HostTable) (fibers : List Seen) (m : Memory) (p : Played x) → UnderWay x limits hosts fibers m p → HasNumbers m.words
 has_numbers x limits hosts fibers m p w =
-    let a : AllStand x limits hosts w.ready p = all_stand x limits hosts w.ready p w.came in
+    let a : AllStand x limits hosts w.runnable w.ranges p = all_stand x limits hosts w.runnable w.ranges p w.came in
     let sums = a.kept.sums in
-    let steps = w.ready.limits_are.few_steps in
+    let steps = w.ranges.few_steps in
     let stamps : m.words.stamps ≡ p.words.stamps = ap (λ (z : Counters). z.stamps) w.shows.words in
     let allocs : m.words.allocs ≡ p.words.allocs = ap (λ (z : Counters). z.allocs) w.shows.words in
     let threads : m.words.threads ≡ p.words.threads = ap (λ (z : Counters). z.threads) w.shows.words in

@@ -29,7 +29,8 @@ use Rattle.core_model.specs.declared.run.Pick.{Pick}
 use Rattle.core_model.specs.declared.run.Pick.TheVariants as pick
 use Rattle.core_model.specs.Fibers.{Seen}
 use Rattle.core_model.specs.Running as running
-use Rattle.core_model.specs.Running.{Runnable, Played, UnderWay, IsUnderWay, Takes, PickedAs, fiber_in}
+use Rattle.instr_sound.specs.Mains.{IsRunnable}
+use Rattle.core_model.specs.Running.{AreLimits, Played, UnderWay, IsUnderWay, Takes, PickedAs, fiber_in}
 use Rattle.core_model.specs.Replays.{PlaysAll, NoneBelow, PlaysOn, HaveEnded, PlaysRest, open_one, unended, weight, weight_of}
 use Rattle.core_model.proofs.Choosing.{got_set}
 use Rattle.core_model.proofs.Coming.{AllStand, all_stand, join_lawful}
@@ -126,12 +127,12 @@ module _ (x : Setting) where
         back g (new k asked last same) = absurd (let low = slice_get_within p.threads t f at in omega (arith, low, last, less))
 
 -- no thread waits for ever ------------------------------------------------------------
-module _ (x : Setting) (limits : Limits) (hosts : HostTable) (r : Runnable x limits hosts) (p : Played x) (a : AllStand x limits hosts r p) (none : NoneBelow x p (length p.threads)) where
+module _ (x : Setting) (limits : Limits) (hosts : HostTable) (r : IsRunnable x hosts) (ranges : AreLimits limits) (p : Played x) (a : AllStand x limits hosts r ranges p) (none : NoneBelow x p (length p.threads)) where
   child_stops : (t : ℕ) (f : Fiber (source x)) → slice_get p.threads t ≡ Some f → ((c : ℕ) (g : Fiber (source x)) → t < c → slice_get p.threads c ≡ Some g → g.«end» ≢ None)
       → (b : Ask) → source_ask x f.state ≡ b → waits (source x) objects p b ≡ true → ⊥
   child_stops t f at later (ask.Join c) asks w =
       let stands = a.states t f at in
-      let kid = stands.kids c.0 ((join_lawful x limits hosts r).asks f.state c stands.joins asks).0 in
+      let kid = stands.kids c.0 ((join_lawful x limits hosts r ranges).asks f.state c stands.joins asks).0 in
       let child = got_at p.threads c.0 kid.1 in
       later c.0 child.0 kid.0 child.1 (none_is child.0.«end» (sym (ap (λ o. is_none (unwrap_or (option_map (λ (z : Fiber (source x)). z.«end») o) None)) child.1) ∙ w))
   child_stops t f at later _ asks w = true≢false (sym w)
@@ -181,7 +182,7 @@ module _ (limits : Limits) (hosts : HostTable) where
 
   pub few_threads : (F : List Seen) (m : Memory) → IsUnderWay limits hosts F m → length F ≤ 1024
   few_threads F m w =
-      let few = (all_stand w.0 limits hosts w.2.ready w.1 w.2.came).few in
+      let few = (all_stand w.0 limits hosts w.2.runnable w.2.ranges w.1 w.2.came).few in
       let same : length w.1.threads ≡ length F = ap length w.2.shows.threads ∙ length-map F (fiber_in w.0) in
       omega (arith, few, same)
 
@@ -246,7 +247,7 @@ module _ (limits : Limits) (hosts : HostTable) where
         a.0,
         a.1,
         a.2,
-        all_ended x limits hosts a.4.ready a.0 (all_stand x limits hosts a.4.ready a.0 a.4.came) (λ u less can. a.3 u (omega (arith, less, same, le)) can),
+        all_ended x limits hosts a.4.runnable a.4.ranges a.0 (all_stand x limits hosts a.4.runnable a.4.ranges a.0 a.4.came) (λ u less can. a.3 u (omega (arith, less, same, le)) can),
         a.4,
       )
 

@@ -17,7 +17,7 @@ use Rattle.source_sem.specs.Source.{Setting, Source, source, source_ask}
 use Rattle.core_model.specs.declared.run.Pick.TheVariants as pick
 use Rattle.core_model.specs.Fibers.{Seen}
 use Rattle.core_model.specs.Running.{Played, UnderWay, Settled, PickedAs, fiber_in}
-use Rattle.core_model.specs.Turns.{IsHalt, AsksJoin}
+use Rattle.instr_sound.specs.Settling.{IsHalt, AsksJoin}
 use Rattle.core_model.proofs.Choosing.{Held, got_map, was_going, end_pick}
 use Rattle.core_model.proofs.Coming.{AllStand, all_stand}
 
@@ -36,7 +36,7 @@ shut_rests x limits hosts fibers m p t w shut can =
 module _ (x : Setting) (limits : Limits) (hosts : HostTable) (before : List Seen) (m : Memory) (p : Played x) (t : ℕ) (w : UnderWay x limits hosts before m p) (f : Seen) (at : slice_get before t ≡ Some f) (opened : f.«end» ≡ None) where
   pub count_within : f.state.count ≤ limits.turns
   count_within =
-      let a : AllStand x limits hosts w.ready p = all_stand x limits hosts w.ready p w.came in
+      let a : AllStand x limits hosts w.runnable w.ranges p = all_stand x limits hosts w.runnable w.ranges p w.came in
       (a.states t (fiber_in x f) (ap (λ l. slice_get l t) w.shows.threads ∙ got_map (fiber_in x) before t f at)).count
 
   module _ (now : Source) (y : Setting) (turned : SettlesWithin (source y) limits.turns f.state now) (same : y ≡ x) where

@@ -33,7 +33,8 @@ use Rattle.source_sem.specs.Traps.{EndIsOwn}
 use Rattle.source_sem.proofs.RequestLaws.{requests_fit}
 use Rattle.source_sem.proofs.TrapLaws.{traps_are_own}
 use Rattle.core_model.specs.declared.run.Pick.TheVariants as pick
-use Rattle.core_model.specs.Ends.{machine_end, pick_of}
+use Rattle.instr_sound.specs.Settling.{machine_end}
+use Rattle.core_model.specs.Ends.{pick_of}
 use Rattle.core_model.specs.Fibers.{Seen, EndsStep, answered, first_seen}
 use Rattle.core_model.specs.Running.{Played, UnderWay, PickedAs, Settled, fiber_in}
 use Rattle.core_model.specs.Steps.{IsStep, JoinsStep, IsAllowed, AsksHostOf}
@@ -94,7 +95,7 @@ module _ (x : Setting) (limits : Limits) (hosts : HostTable) (before : List Seen
   ask_host = by_ask a s.asks
     where
       by_ask : (b : Ask) → b ≡ source_ask x now → AsksHostOf hosts b
-      by_ask (ask.Host n c d) is = host_there x limits hosts s.way.ready now n c d stands.joins (sym is)
+      by_ask (ask.Host n c d) is = host_there x limits hosts s.way.runnable s.way.ranges now n c d stands.joins (sym is)
       by_ask _ is = tt
 
   -- the thread isn't waiting

@@ -5,10 +5,7 @@ use Rattle.history.specs.declared.ask.Ask.TheVariants as ask
 use Rattle.source_sem.specs.Source.{Setting, Source}
 use Rattle.core_model.specs.Fibers.{Seen, seen, all_seen}
 use Rattle.std.specs.declared.option.Option.{Option}
-use Rattle.history.specs.declared.ask.MachineEnd.{MachineEnd}
-use Rattle.history.specs.declared.ask.MachineEnd.TheVariants as end
 use Rattle.history.specs.declared.log.End.{End}
-use Rattle.history.specs.declared.log.End.TheVariants as log_end
 use Rattle.bsan_ids.specs.declared.numbers.Limits.{Limits}
 use Rattle.core_model.specs.declared.fiber.Fiber.{Fiber}
 use Rattle.core_model.specs.declared.run.Pick.{Pick}
@@ -18,10 +15,6 @@ use Rattle.core_model.specs.Turns.{Rests}
 -- the end of a thread, once it has ended
 abbrev pub end_in : {T : Type 0} → List (Fiber T) → ℕ → Option End
 end_in fibers t = unwrap_or (option_map (λ f. f.«end») (slice_get fibers t)) None
-
-abbrev pub machine_end : MachineEnd → End
-machine_end (end.Returned v q) = log_end.Returned v q
-machine_end (end.Trapped t) = log_end.Trapped t
 
 -- whether a thread is there and has not ended
 abbrev pub is_open : {T : Type 0} → Option (Fiber T) → Bool

@@ -4,10 +4,8 @@ use Rattle.bsan_ids.specs.declared.numbers.Limits.{Limits}
 use Rattle.history.specs.declared.entry.Entry.{Entry}
 use Rattle.history.specs.declared.ask.Ask.{Ask}
 use Rattle.history.specs.declared.ask.Ask.TheVariants as ask
-use Rattle.ir_ast.specs.Programs.{IsProgram}
-use Rattle.ir_ast.specs.Tokens.{Each}
 use Rattle.ir_ast.specs.declared.hosts.HostTable.{HostTable}
-use Rattle.ir_rules.specs.Rules.{IsAccepted}
+use Rattle.instr_sound.specs.Mains.{IsRunnable}
 use Rattle.run_memory.specs.Memory.{Memory, log_at, keeps}
 use Rattle.history.specs.declared.log.End.{End}
 use Rattle.runs.specs.Machine.{SettlesWithin, MayGoOn}
@@ -18,7 +16,7 @@ use Rattle.runs.specs.Replay.{Progress, Choice, Waits, Ends, Steps, CanGoOn, Cho
 use Rattle.runs.specs.ReplayLaw.{first_progress}
 use Rattle.source_sem.specs.Source.{Setting, Source, source, source_ask}
 use Rattle.source_sem.specs.Records.{allowed}
-use Rattle.source_sem.specs.Starting.{setting_of, main_of, main_start}
+use Rattle.source_sem.specs.Starting.{main_of, main_start}
 use Rattle.core_model.specs.declared.run.Pick.{Pick}
 use Rattle.core_model.specs.declared.run.Pick.TheVariants as pick
 use Rattle.core_model.specs.Fibers.{Seen}
@@ -31,14 +29,6 @@ pub record AreLimits (limits : Limits) : Type 0 where
   pub few_turns : limits.turns ≤ 100000000
   pub some_allocs : 0 < limits.allocs
   pub few_allocs : limits.allocs ≤ 65536
-
--- an accepted program with an input of bytes, and the host functions for which it was accepted
-pub record Runnable (x : Setting) (limits : Limits) (hosts : HostTable) : Type 0 where
-  pub program : IsProgram x.program
-  pub accepted : IsAccepted x.program hosts
-  pub bytes : Each (λ b. b < 256) x.input
-  pub setting : x ≡ setting_of x.program x.input hosts
-  pub limits_are : AreLimits limits
 
 -- a replay of source threads over allocations
 abbrev pub Played : Setting → Type 0
@@ -62,7 +52,8 @@ pub record Shows (x : Setting) (limits : Limits) (fibers : List Seen) (m : Memor
   pub logs : (a : ℕ) → log_at m.logs a ≡ (if keeps limits a then of_alloc a p.merge else [])
 
 pub record UnderWay (x : Setting) (limits : Limits) (hosts : HostTable) (fibers : List Seen) (m : Memory) (p : Played x) : Type 0 where
-  pub ready : Runnable x limits hosts
+  pub runnable : IsRunnable x hosts
+  pub ranges : AreLimits limits
   pub shows : Shows x limits fibers m p
   pub came : Came x limits hosts p
 

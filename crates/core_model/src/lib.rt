@@ -5,7 +5,6 @@ mod fiber;
 mod main_thread;
 mod plays;
 mod run;
-mod settle;
 mod step;
 
 pub use main_thread::main_machine;

@@ -1,10 +1,10 @@
 //! All picks of a replay.
 ghost use Rattle.std.specs.Prelude.{◌≡◌, ◌≤◌, IfOk, OnOk, OnErr, length, map};
 ghost use Rattle.history.specs.Records.{empty_record};
-ghost use Rattle.source_sem.specs.Starting.{main_of, main_start};
+ghost use Rattle.instr_sound.specs.Mains.{IsMain};
 ghost use Rattle.core_model.specs.Fibers.{all_seen, seen};
 ghost use Rattle.core_model.specs.Kept.{seen_log, seen_logs, seen_record, Replayed};
-ghost use Rattle.core_model.specs.Running.{IsUnderWay, Runnable};
+ghost use Rattle.core_model.specs.Running.{AreLimits, IsUnderWay};
 ghost use Rattle.core_model.specs.Replays.{PlaysAll, PlaysRest};
 
 use crate::fiber::Fiber;
@@ -104,9 +104,8 @@ pub fn replay<T: Thread>(
     hosts: &Hosts,
     kept: &mut RunRecord,
 ) -> Result<(), NoMemory>
-    requires function { function ≡ main_of (T.setting main).program }
-    requires start { T.state main ≡ main_start (T.setting main) }
-    requires runnable { Runnable (T.setting main) limits.now hosts.now.table }
+    requires main { IsMain T.setting T.state hosts.now.table function main }
+    requires limits { AreLimits limits.now }
     ensures ok { OnOk result (Replayed (T.setting main).program (T.setting main).input hosts.now.table limits.now (map (λ n. n.0) schedule.now) kept.new) }
     ensures err { OnErr result (kept.new ≡ empty_record) }
 {

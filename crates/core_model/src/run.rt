@@ -6,13 +6,13 @@ ghost use Rattle.thread_machine.specs.Views.{IsSpawn};
 ghost use Rattle.core_model.specs.Fibers.{all_seen};
 ghost use Rattle.core_model.specs.Running.{IsUnderWay, Picks, IsSettled, GoesOn};
 ghost use Rattle.core_model.specs.Ends.{end_in, is_open, IsEndOf, EndsAt, RestsBy};
+ghost use Rattle.core_model.specs.Turns.{Rests};
 
 use crate::fiber::{Fiber, Took};
-use crate::settle::{end_by, end_here, settle};
-use bsan_ids::{Limits, ThreadNo};
+use bsan_ids::{Limits, NoMemory, ThreadNo};
 use history::{Ask, End};
 use hosts::Hosts;
-use instr_sound::Thread;
+use instr_sound::{Thread, end_by, settle};
 use run_memory::RunMemory;
 
 /// All threads of a run, the k-th with the number k, and its allocations.
@@ -50,6 +50,20 @@ fn is_open<T>(fibers: &[Fiber<T>], number: ThreadNo) -> bool
     match fibers.get(number.0 as usize) {
         Some(fiber) => fiber.end.is_none(),
         None => false,
+    }
+}
+
+/// How the thread has ended after a step, if its state is an end.
+fn end_here<T: Thread>(thread: &T, limits: &Limits) -> Option<End>
+    ensures { Rests (T.setting thread.now) limits.now (T.state thread.now) result }
+{
+    if thread.begins() && thread.instructions() == limits.turns {
+        return Some(End::TurnLimit);
+    }
+    match thread.ask() {
+        Ok(Ask::Ended(end)) => Some(end_by(end)),
+        Ok(_) => None,
+        Err(NoMemory) => Some(End::NoMemory),
     }
 }
 

@@ -10,7 +10,6 @@ mod replay;
 #[cfg(test)]
 mod tests;
 mod text;
-mod words;
 
 pub use causes::explain;
 pub use explained::Explained;

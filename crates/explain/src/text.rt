@@ -4,17 +4,27 @@ ghost use Rattle.std.specs.List.{flat_map};
 ghost use Rattle.history.specs.Records.{HasDistinctStamps};
 ghost use Rattle.report.specs.Violation.{IsDescribable};
 ghost use Rattle.explain.specs.Explanations.{AreExplained, AreHistories};
-ghost use Rattle.explain.specs.Text.{IsTellable, IsWritable, cause_line, deed_of, node_lines};
+ghost use Rattle.explain.specs.Text.{IsTellable, IsWritable, cause_line, deed_of, node_lines, place_word};
 ghost use Rattle.explain.specs.Text as text;
 
 use crate::explained::Explained;
-use crate::words::{perm_name, place_word};
 use bsan_ids::{NoMemory, Tag};
 use eager_tree::Violation;
 use history::{Entry, Request, RunRecord, Verdict};
+use ir_ast::Place;
 use perm_table::Perm;
-use report::{part, violation_line, what};
+use report::{part, perm_name, violation_line, what};
 use std::alloc::Global;
+
+/// Where an allocation lies.
+fn place_word(place: Place) -> &'static str
+    ensures { result.now ≡ place_word place }
+{
+    match place {
+        Place::Stack => "stack",
+        Place::Heap => "heap",
+    }
+}
 
 /// What an entry did to its allocation.
 fn deed(alloc: Global, entry: &Entry) -> Result<Vec<u8>, NoMemory>

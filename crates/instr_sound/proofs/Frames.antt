@@ -102,7 +102,7 @@ params_fit p hosts g fits =
     (each_all (IsParam p.version) (λ (q : Param). IsPointerAttr q.ty q.attr) (pointer_attr p.version) g.params fits.typed.attributes)
 
 -- a function begins: its parameters are read from the row, and its first retag or instruction is reached
-module _ (p : Program) (hosts : List HostEntry) (input : List ℕ) (k : ℕ) (g : Function) (fits : FunctionFits p hosts g) (known : slice_get p.functions k ≡ Some g) (row : Row) (vs : List Arg) (gives : Gives row 0 g.params vs) (loaded stored : Option Prov) (callers : List TargetFrame) (count : ℕ) where
+module _ (p : Program) (hosts : List HostEntry) (input : List ℕ) (k : ℕ) (g : Function) (fits : FunctionFits p hosts g) (known : slice_get p.functions k ≡ Some g) (passed : Row) (vs : List Arg) (gives : Gives passed 0 g.params vs) (loaded stored : Option Prov) (callers : List TargetFrame) (count : ℕ) where
   abbrev x : Scope
   x = scope_of p.functions hosts g
 
@@ -124,9 +124,9 @@ module _ (p : Program) (hosts : List HostEntry) (input : List ℕ) (k : ℕ) (g 
   abbrev inside : Hidden
   inside = record {
     rest = [];
-    words = fill_words row x 0 g.params (replicate (length x.registers) 0);
-    shadows = fill_shadows row x 0 g.params (replicate (length x.registers) None);
-    handed = row;
+    words = fill_words passed x 0 g.params (replicate (length x.registers) 0);
+    shadows = fill_shadows passed x 0 g.params (replicate (length x.registers) None);
+    handed = passed;
     given = blank;
     callers = callers;
     row = empty_row;
@@ -139,30 +139,30 @@ module _ (p : Program) (hosts : List HostEntry) (input : List ℕ) (k : ℕ) (g 
   start f = record { top = f; callers = callers; row = empty_row; loaded = loaded; stored = stored; copying = untouched; begun = true; count = count; over = None }
 
   abbrev first_frame : TargetFrame
-  first_frame = record { function = k; site = base; rest = []; words = replicate (length x.registers) 0; shadows = replicate (length x.registers) None; handed = row; result = blank; given = blank; owned = nothing_owned }
+  first_frame = record { function = k; site = base; rest = []; words = replicate (length x.registers) 0; shadows = replicate (length x.registers) None; handed = passed; result = blank; given = blank; owned = nothing_owned }
 
   abbrev started : Thread
-  started = go_on input (first_lines (slice_get (translation hosts p).functions k)) (start (frame_at k (slice_get (translation hosts p).functions k) row))
+  started = go_on input (first_lines (slice_get (translation hosts p).functions k)) (start (frame_at k (slice_get (translation hosts p).functions k) passed))
 
   module _ (b : Block) (is_first : slice_get g.blocks 0 ≡ Some b) where
     abbrev rest : List Line
     rest = rest_lines x base b.insts b.term.jump
 
-    site_is : frame_at k (slice_get (translation hosts p).functions k) row ≡ first_frame
+    site_is : frame_at k (slice_get (translation hosts p).functions k) passed ≡ first_frame
     site_is =
-        ap (λ z. frame_at k z row) (function_at p hosts k g known)
-        ∙ ap (λ z. let f : TargetFrame = record { function = k; site = turn_number z; rest = []; words = replicate (length x.registers) 0; shadows = replicate (length x.registers) None; handed = row; result = blank; given = blank; owned = nothing_owned } in f)
+        ap (λ z. frame_at k z passed) (function_at p hosts k g known)
+        ∙ ap (λ z. let f : TargetFrame = record { function = k; site = turn_number z; rest = []; words = replicate (length x.registers) 0; shadows = replicate (length x.registers) None; handed = passed; result = blank; given = blank; owned = nothing_owned } in f)
         (sym (ap (λ z. block_at z 0) (function_at p hosts k g known)) ∙ code_at p hosts k g 0 b known is_first)
 
     to_retags : started ≡ go_on input (entry_retags x g.params rest) (image k base nothing_owned Ready count inside)
     to_retags =
-        ap (λ z. go_on input z (start (frame_at k (slice_get (translation hosts p).functions k) row))) (first_at p hosts k g b known is_first)
+        ap (λ z. go_on input z (start (frame_at k (slice_get (translation hosts p).functions k) passed))) (first_at p hosts k g b known is_first)
         ∙ ap (λ z. go_on input (line.PushFrame ∷ param_lines x 0 g.params (entry_retags x g.params rest)) (start z)) site_is
         ∙ ap (cross input) (run_params input x 0 g.params (entry_retags x g.params rest) (start first_frame))
 
     held : SlotsHold x g (bind g.params vs []) inside.words inside.shadows
     held =
-        filled x g row 0 g.params vs [] (replicate (length x.registers) 0) (replicate (length x.registers) None) (holds_blank x g) (each_all (ParamFits x g) (ParamKnown x g) (λ q f. f.0) g.params (params_fit p hosts g fits)) gives
+        filled x g passed 0 g.params vs [] (replicate (length x.registers) 0) (replicate (length x.registers) None) (holds_blank x g) (each_all (ParamFits x g) (ParamKnown x g) (λ q f. f.0) g.params (params_fit p hosts g fits)) gives
 
     block : BlockFits p x g b
     block = block_fits p hosts g 0 b fits is_first

@@ -11,3 +11,4 @@ pub mod Whole
 pub mod Requests
 pub mod Keeping
 pub mod Walks
+pub mod Mains

@@ -248,15 +248,15 @@ module _ (p : Program) (hosts : List HostEntry) (input : List ℕ) (g : Function
   goal_turns fits is goal more ls T typed has e =
       let to = goal_there p hosts g goal typed has in
       let t = counted_at ls in
-      let row = args_row t.top x 0 goal.args t.row in
+      let passed = args_row t.top x 0 goal.args t.row in
       let b = block_fits p hosts g (place (labels g.blocks) goal.label.name) to.block fits to.number in
       let there' : slice_get g.blocks (block_place g.blocks goal.label.name) ≡ Some to.block = to.number in
       let going : Going p hosts input (in_goal goal to.block) fs (count + 1) T = record {
         code = g;
-        hidden = record h { row = row; words = fill_words row x 0 to.block.params h.words; shadows = fill_shadows row x 0 to.block.params h.shadows };
+        hidden = record h { row = passed; words = fill_words passed x 0 to.block.params h.words; shadows = fill_shadows passed x 0 to.block.params h.shadows };
         top = record {
           known = known;
-          holds = filled x g row 0 to.block.params (args_of env goal.args) env h.words h.shadows holds b.params (args_give x g env t.top holds 0 goal.args to.block.params t.row to.types);
+          holds = filled x g passed 0 to.block.params (args_of env goal.args) env h.words h.shadows holds b.params (args_give x g env t.top holds 0 goal.args to.block.params t.row to.types);
           insts_fit = b.insts;
           term_fits = b.term;
           beside = tt;

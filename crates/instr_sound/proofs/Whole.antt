@@ -241,8 +241,8 @@ answers p hosts input fits s t r st step = answers_by p hosts input fits s t s.f
 -- ---- starts
 
 -- a new thread simulates the source thread that starts with the arguments that its row gives
-pub starts : (p : Program) (hosts : List HostEntry) (input : List ℕ) → ProgramFits p hosts → (k : ℕ) (g : Function) (row : Row) (vs : List Arg) → slice_get p.functions k ≡ Some g → GivesArgs row 0 g.params vs → Simulates p hosts input (source_start (source_setting p hosts input) k vs) (thread_start (target_setting p hosts input) k row)
-starts p hosts input fits k g row vs known gives = begins p hosts input k g (fits k g known) known row vs gives None None [] 0 [] tt
+pub starts : (p : Program) (hosts : List HostEntry) (input : List ℕ) → ProgramFits p hosts → (k : ℕ) (g : Function) (passed : Row) (vs : List Arg) → slice_get p.functions k ≡ Some g → GivesArgs passed 0 g.params vs → Simulates p hosts input (source_start (source_setting p hosts input) k vs) (thread_start (target_setting p hosts input) k passed)
+starts p hosts input fits k g passed vs known gives = begins p hosts input k g (fits k g known) known passed vs gives None None [] 0 [] tt
 
 -- ---- children
 

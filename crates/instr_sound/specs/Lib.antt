@@ -4,3 +4,5 @@ pub mod Tie
 pub mod Tried
 pub mod Text
 pub mod Sound
+pub mod Mains
+pub mod Settling

@@ -2,9 +2,11 @@
 #![tactic(auto)]
 
 pub mod laws;
+mod settling;
 mod sound;
 mod text;
 mod thread;
 
+pub use settling::{end_by, settle};
 pub use sound::SoundMachine;
 pub use thread::Thread;

@@ -35,8 +35,9 @@ use Rattle.alloc_space.specs.Spaces.{SpaceView}
 use Rattle.interp.specs.declared.running.Running.{Running}
 use Rattle.interp.specs.Came.{AsksPlainly, IsDone, IsOver, IsStepEnd}
 use Rattle.interp.specs.Desks.{Over, running, DeskEnd}
+use Rattle.instr_sound.specs.Settling.{IsHalt, machine_end}
 use Rattle.interp.specs.Running.{IsOfChildren, view_of, kids_of, below_of, own_roots_of, IsGoingAs, IsGoing, GoesOn, HasEnded}
-use Rattle.interp.specs.Views.{ThreadView, IsKept, Knows, StepFits, ended_as, EndFits, answered, child_view}
+use Rattle.interp.specs.Views.{ThreadView, IsKept, Knows, StepFits, EndFits, answered, child_view}
 use Rattle.interp.proofs.Children.{children_drawn, children_entry}
 use Rattle.interp.proofs.Coming.{desk_saw}
 use Rattle.interp.proofs.Going.{goes_settled, goes_entry, goes_over}
@@ -263,8 +264,19 @@ module _ {T : Type 0} (setting : T → Setting) (state : T → Source) (space : 
 
   -- the end of a thread by its own
   pub machine_ends : (e : MachineEnd) → source_ask (setting r.machine) (state r.machine) ≡ ask.Ended e → MayGoOn (source (setting r.machine)) space.limits.turns (state r.machine)
-      → GoesOn setting state space r → HasEnded setting state space (ended_as e) r
+      → GoesOn setting state space r → HasEnded setting state space (machine_end e) r
   machine_ends (end.Returned w p) asks may on =
       ends_plainly (log_end.Returned w p) (returned_draws w p) (asks, may) (returns_typed (setting r.machine) r.hosts.value on.going.runnable r.entries.items r.function (state r.machine) on.going.kept w p asks) (λ k is. absurd (returned_joins w p k is)) on
   machine_ends (end.Trapped t) asks may on =
       ends_plainly (log_end.Trapped t) (trapped_draws t (traps_own (setting r.machine) r.hosts.value on.going.runnable r.entries.items r.function (state r.machine) on.going.kept t asks)) (inl asks, may) tt (λ k is. absurd (trapped_joins t k is)) on
+
+-- the end of a thread that halts before it asks for a step
+pub halted : {T : Type 0} (setting : T → Setting) (state : T → Source) (space : SpaceView) (r : Running T) (m : T) (why : End) → IsHalt (setting m) space.limits.turns (state m) why
+    → GoesOn setting state space (record r { machine = m }) → HasEnded setting state space why (record r { machine = m })
+halted setting state space r m log_end.TurnLimit halt on =
+    ends_plainly setting state space (record r { machine = m }) log_end.TurnLimit turn_limit_draws (halt.0, halt.1) tt (λ k is. absurd (turn_limit_joins k is)) on
+halted setting state space r m log_end.NoMemory halt on = ends_memory setting state space (record r { machine = m }) m refl r.entries refl on
+halted setting state space r m (log_end.Returned w p) halt on = absurd halt
+halted setting state space r m (log_end.Trapped t) halt on = absurd halt
+halted setting state space r m (log_end.StepLimit k) halt on = absurd halt
+halted setting state space r m (log_end.ChildEnded c) halt on = absurd halt

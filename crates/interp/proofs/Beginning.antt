@@ -240,7 +240,7 @@ module _ {T : Type 0} (setting : T → Setting) (state : T → Source) (space : 
 
     pub first_child : IsFirst setting state space r.hosts.value b.number b.function b.machine b.desk
     first_child = record {
-      runnable = subst (λ x. Rattle.interp.specs.Views.IsRunnable x r.hosts.value) (ap (λ (w : ThreadView). w.setting) (sym is_child)) g.runnable;
+      runnable = subst (λ x. Rattle.instr_sound.specs.Mains.IsRunnable x r.hosts.value) (ap (λ (w : ThreadView). w.setting) (sym is_child)) g.runnable;
       begins = subst (λ (w : ThreadView). Begins w b.function) (sym is_child) (subst (λ n. Begins (child_view v) n) (sym is_function) (child_begins v.setting r.hosts.value g.runnable r.entries.items r.function v.state g.kept function asks));
       own = ap (λ (x : DeskView). x.table) is_desk ∙ (ap (λ (x : DeskView). x.table) at_f ∙ g.own);
       stamp = f.view.seen;

@@ -29,7 +29,8 @@ use Rattle.interp.specs.Desks.{running, IsReady}
 use Rattle.interp.specs.Flatten.{roots_of}
 use Rattle.interp.specs.Goes.{Kid, Goes, Takes}
 use Rattle.interp.specs.Running.{IsOfChildren, IsPromised, IsPromiseOf, view_of, kid_of, kids_of, below_of, own_roots_of, begun_kid, GoesOn, HasEnded, IsFirst, IsBegun}
-use Rattle.interp.specs.Views.{ThreadView, IsRunnable, IsKept, TreeReturns, EndFits}
+use Rattle.instr_sound.specs.Mains.{IsRunnable}
+use Rattle.interp.specs.Views.{ThreadView, IsKept, TreeReturns, EndFits}
 use Rattle.interp.proofs.Children.{takes_last}
 use Rattle.interp.proofs.Ending.{IsLogOf, desk_ends, goes_end}
 use Rattle.interp.proofs.Going.{goes_nowhere}

@@ -35,7 +35,7 @@ use Rattle.source_sem.specs.Records.{allowed}
 use Rattle.turn_lock.specs.Steps.{drew_alloc, saw}
 use Rattle.turn_lock.specs.Plays.{DeskView}
 use Rattle.turn_lock.specs.declared.view.View.{View}
-use Rattle.alloc_space.specs.Spaces.{AreLimits}
+use Rattle.alloc_space.specs.Spaces.{AreCountable}
 use Rattle.alloc_space.specs.Steps.{stamped, has_slot, call_of, stepped_by, numbered, IsStep, IsPastSteps, HasSeen, IsMaking, IsNote, IsLastOf}
 use Rattle.alloc_space.specs.declared.step.Stepped.TheVariants as stepped
 use Rattle.source_runs.specs.Invariant.{PlainFits}
@@ -187,8 +187,8 @@ module _ (limits : Limits) where
       threads = ap (λ (d : DeskView). d.view.threads.own) p.desk;
     }
 
-  small_number : AreLimits limits → (n : ℕ) → n ≤ limits.allocs → n < 2 ^ 32
-  small_number ranges n few = let a = ranges.allocs in omega (arith, few)
+  small_number : AreCountable limits → (n : ℕ) → n ≤ limits.allocs → n < 2 ^ 32
+  small_number countable n few = let a = countable.allocs in omega (arith, few)
 
   some_same : (a b : AllocNo) → Some a ≡ Some b → a ≡ b
   some_same a b e = cc
@@ -292,7 +292,7 @@ module _ (limits : Limits) where
       (λ f is ty. subst (λ (q : Reply). IsWord q.plain) (sym is) word) tt tt refl refl s
 
   -- a Make
-  module _ (ranges : AreLimits limits) (number : ThreadNo) (place size : ℕ) (at : Place) (old new : DeskView) (ready : IsReady limits old.view) where
+  module _ (countable : AreCountable limits) (number : ThreadNo) (place size : ℕ) (at : Place) (old new : DeskView) (ready : IsReady limits old.view) where
     pub done_make : (hosts : HostTable) (e : Entry) → fits (request.Make size at) ≡ true → IsMaking limits number place size at old new (stepped.Done e) → IsDone limits hosts number place (ask.Make size at) old new e
     done_make hosts e sized m =
         let s : IsStep limits number place m.number (request.Make size at) (numbered old m.number.0) new e = m.step in
@@ -307,7 +307,7 @@ module _ (limits : Limits) where
             thread = s.entry.thread_is;
             site = s.entry.site_is;
             answers = s.entry.request_is;
-            fitting = answered_fits m.number e w (λ _. small_number ranges m.number.0 m.few) (ap fits s.entry.request_is ∙ sized) s.entry.alloc_is;
+            fitting = answered_fits m.number e w (λ _. small_number countable m.number.0 m.few) (ap fits s.entry.request_is ∙ sized) s.entry.alloc_is;
             right = entry_right hosts m.number e (subst (λ q. IsEntryRight (allowed limits hosts) e q) (sym s.entry.request_is) (m.number, s.entry.alloc_is, m.first, m.few)) s.entry.alloc_is s.step.within s.answers;
           };
           desk = subst (λ (d : DeskView). DeskStep limits old.view d.view e) (sym s.step.desk) (desk_make old.view m.number.0 e ready.turn s.step.later one_made none_started);

@@ -35,7 +35,7 @@ use Rattle.turn_lock.specs.Weights.{naming, sum_up_to}
 use Rattle.alloc_state.specs.Log.{Log}
 use Rattle.alloc_space.specs.Steps.{has_slot}
 use Rattle.interp.specs.Desks.{slotted}
-use Rattle.interp.specs.Wholes.{logs_of}
+use Rattle.run_memory.specs.States.{named_in}
 
 -- the numbers up to a count
 pub sum_counts : (h : ℕ → ℕ) (n : ℕ) → sum_up_to h n ≡ sum_by h (counting_from 1 n)
@@ -176,21 +176,21 @@ numbered_from n (s ∷ ss) all =
     ((let a = all 0 s refl in omega (arith, a)), numbered_from (suc n) ss (λ k x is. (let a = all (suc k) x is in omega (arith, a))))
 
 -- a number that no state has
-pub no_history : (n a : ℕ) (ss : List Log) → AreNumbered n ss → a ≤ n → history_of (logs_of ss) a ≡ []
+pub no_history : (n a : ℕ) (ss : List Log) → AreNumbered n ss → a ≤ n → history_of (named_in ss) a ≡ []
 no_history n a [] all low = refl
 no_history n a (s ∷ ss) all low = by_entries s.entries (no_history (suc n) a ss all.1 (omega (arith, low)))
   where
     apart : s.number.0 ≢ a
     apart same = let b = all.0 in omega (arith, b, same, low)
 
-    by_entries : (es : List Entry) → history_of (logs_of ss) a ≡ [] → history_of (with_history s.number.0 es (logs_of ss)) a ≡ []
+    by_entries : (es : List Entry) → history_of (named_in ss) a ≡ [] → history_of (with_history s.number.0 es (named_in ss)) a ≡ []
     by_entries [] rest = rest
     by_entries (e ∷ es) rest = elim (eqb_tells s.number.0 a) [
       | inl hit ↦ absurd (apart hit.1)
       | inr miss ↦ rw miss.0 rest
     ]
 
-pub history_at : (n k : ℕ) (ss : List Log) (x : Log) → AreNumbered n ss → slice_get ss k ≡ Some x → history_of (logs_of ss) (suc (n + k)) ≡ x.entries
+pub history_at : (n k : ℕ) (ss : List Log) (x : Log) → AreNumbered n ss → slice_get ss k ≡ Some x → history_of (named_in ss) (suc (n + k)) ≡ x.entries
 history_at n k [] x all is = none_some is
   where
     none_some : {B : Type 0} → None ≡ Some x → B
@@ -206,13 +206,13 @@ history_at n zero (s ∷ ss) x all is = by_entries s.entries refl
     place : s.number.0 ≡ suc (n + 0)
     place = let a = all.0 in omega (arith, a)
 
-    by_entries : (es : List Entry) → s.entries ≡ es → history_of (with_history s.number.0 es (logs_of ss)) (suc (n + 0)) ≡ x.entries
+    by_entries : (es : List Entry) → s.entries ≡ es → history_of (with_history s.number.0 es (named_in ss)) (suc (n + 0)) ≡ x.entries
     by_entries [] at = no_history (suc n) (suc (n + 0)) ss all.1 (omega arith) ∙ (sym at ∙ ap (λ (z : Log). z.entries) same)
     by_entries (e ∷ es) at = elim (eqb_tells s.number.0 (suc (n + 0))) [
       | inl hit ↦ rw hit.0 (sym at ∙ ap (λ (z : Log). z.entries) same)
       | inr miss ↦ absurd (miss.1 place)
     ]
-history_at n (suc k) (s ∷ ss) x all is = by_entries s.entries (subst (λ m. history_of (logs_of ss) m ≡ x.entries) next (history_at (suc n) k ss x all.1 is))
+history_at n (suc k) (s ∷ ss) x all is = by_entries s.entries (subst (λ m. history_of (named_in ss) m ≡ x.entries) next (history_at (suc n) k ss x all.1 is))
   where
     next : suc (suc n + k) ≡ suc (n + suc k)
     next = omega arith
@@ -220,7 +220,7 @@ history_at n (suc k) (s ∷ ss) x all is = by_entries s.entries (subst (λ m. hi
     apart : s.number.0 ≢ suc (n + suc k)
     apart same = let a = all.0 in omega (arith, a, same)
 
-    by_entries : (es : List Entry) → history_of (logs_of ss) (suc (n + suc k)) ≡ x.entries → history_of (with_history s.number.0 es (logs_of ss)) (suc (n + suc k)) ≡ x.entries
+    by_entries : (es : List Entry) → history_of (named_in ss) (suc (n + suc k)) ≡ x.entries → history_of (with_history s.number.0 es (named_in ss)) (suc (n + suc k)) ≡ x.entries
     by_entries [] rest = rest
     by_entries (e ∷ es) rest = elim (eqb_tells s.number.0 (suc (n + suc k))) [
       | inl hit ↦ absurd (apart hit.1)
@@ -231,28 +231,14 @@ allocs_lower : (n k limit : ℕ) (ls : List AllocLog) → n ≤ k → AllocsRise
 allocs_lower n k limit [] le r = tt
 allocs_lower n k limit (l ∷ ls) le r = ((let a = r.0 in omega (arith, a, le)), r.1, r.2, r.3)
 
-pub logs_rise : (n limit : ℕ) (ss : List Log) → AreNumbered n ss → n + length ss ≤ limit → AllocsRiseFrom n limit (logs_of ss)
+pub logs_rise : (n limit : ℕ) (ss : List Log) → AreNumbered n ss → n + length ss ≤ limit → AllocsRiseFrom n limit (named_in ss)
 logs_rise n limit [] all most = tt
 logs_rise n limit (s ∷ ss) all most = by_entries s.entries (logs_rise (suc n) limit ss all.1 (omega (arith, most)))
   where
     some_entry : (e : Entry) (es : List Entry) → e ∷ es ≡ [] → ⊥
     some_entry e es is = cc
 
-    by_entries : (es : List Entry) → AllocsRiseFrom (suc n) limit (logs_of ss) → AllocsRiseFrom n limit (with_history s.number.0 es (logs_of ss))
-    by_entries [] rest = allocs_lower n (suc n) limit (logs_of ss) (omega arith) rest
+    by_entries : (es : List Entry) → AllocsRiseFrom (suc n) limit (named_in ss) → AllocsRiseFrom n limit (with_history s.number.0 es (named_in ss))
+    by_entries [] rest = allocs_lower n (suc n) limit (named_in ss) (omega arith) rest
     by_entries (e ∷ es) rest =
-        ((let a = all.0 in omega (arith, a)), (let a = all.0 in omega (arith, a, most)), some_entry e es, subst (λ m. AllocsRiseFrom m limit (logs_of ss)) (sym all.0) rest)
-
--- one log more
-pub logs_more : (ss : List Log) (s : Log) → logs_of (ss ++ s ∷ []) ≡ logs_of ss ++ with_history s.number.0 s.entries []
-logs_more [] s = refl
-logs_more (x ∷ xs) s = by_entries x.entries (logs_more xs s)
-  where
-    by_entries : (es : List Entry) → logs_of (xs ++ s ∷ []) ≡ logs_of xs ++ with_history s.number.0 s.entries []
-        → with_history x.number.0 es (logs_of (xs ++ s ∷ [])) ≡ with_history x.number.0 es (logs_of xs) ++ with_history s.number.0 s.entries []
-    by_entries [] rest = rest
-    by_entries (e ∷ es) rest = ap (λ ls. (let l : AllocLog = record { number = record { 0 = x.number.0 }; entries = e ∷ es } in l ∷ ls)) rest
-
-pub with_some : (n : ℕ) (es : List Entry) → (es ≡ [] → ⊥) → with_history n es [] ≡ (let l : AllocLog = record { number = record { 0 = n }; entries = es } in l ∷ [])
-with_some n [] some = absurd (some refl)
-with_some n (e ∷ es) some = refl
+        ((let a = all.0 in omega (arith, a)), (let a = all.0 in omega (arith, a, most)), some_entry e es, subst (λ m. AllocsRiseFrom m limit (named_in ss)) (sym all.0) rest)

@@ -25,7 +25,8 @@ use Rattle.source_sem.proofs.JoinSteps.{join_law}
 use Rattle.source_sem.proofs.RequestLaws.{requests_fit}
 use Rattle.source_sem.proofs.Stepping.{spawns_start}
 use Rattle.source_sem.proofs.TrapLaws.{traps_are_own}
-use Rattle.interp.specs.Views.{IsRunnable, result_of, result_in, Knows, IsKept, StepFits}
+use Rattle.instr_sound.specs.Mains.{IsRunnable}
+use Rattle.interp.specs.Views.{result_of, result_in, Knows, IsKept, StepFits}
 use Rattle.interp.proofs.Members.{has_left}
 
 knows_short : (entries : List Entry) (f c : ℕ) → Knows entries f c → c < 2 ^ 32
@@ -38,7 +39,7 @@ knows_more es e f c (inr k) = inr (record { spawn = k.0.spawn; stands = has_left
 
 module _ (x : Setting) (hosts : HostTable) (run : IsRunnable x hosts) where
   words : (entries : List Entry) → WordLaw x (Knows entries)
-  words entries = word_law x (Knows entries) (λ k. inl refl) (knows_short entries) run.input (program_typed x.program hosts run.program run.accepted)
+  words entries = word_law x (Knows entries) (λ k. inl refl) (knows_short entries) run.bytes (program_typed x.program hosts run.program run.accepted)
 
   joins : JoinLaw x
   joins = join_law x (accepted_programs_join x.program hosts run.program run.accepted)
@@ -80,7 +81,7 @@ module _ (x : Setting) (hosts : HostTable) (run : IsRunnable x hosts) where
     pub asks_fit : (a : Ask) → source_ask x s ≡ a → StepFits (length hosts.entries) a
     asks_fit (ask.At a r) is = ((requests_fit x).numbered s a r is, (requests_fit x).asks s a r k.requests is, (words entries).pieces (result_of x f) s a r k.words is)
     asks_fit (ask.Make size place) is = (requests_fit x).makes s size place k.requests is
-    asks_fit (ask.Host n a b) is = let w = (words entries).hosts (result_of x f) s n a b k.words is in (accepted_programs_ask x hosts run.accepted run.names s n a b k.stands is, w.0, w.1)
+    asks_fit (ask.Host n a b) is = let w = (words entries).hosts (result_of x f) s n a b k.words is in (accepted_programs_ask x hosts run.accepted (ap (λ (y : Setting). y.hosts) run.setting) s n a b k.stands is, w.0, w.1)
     asks_fit ask.Turn is = tt
     asks_fit (ask.Ended e) is = tt
     asks_fit (ask.Print v) is = tt

@@ -16,8 +16,7 @@ use Rattle.turn_lock.specs.Plays.{DeskView}
 use Rattle.turn_lock.specs.Rule.{newcomer}
 use Rattle.alloc_space.specs.Spaces.{SpaceView}
 use Rattle.interp.specs.Running.{IsFirst}
-use Rattle.interp.specs.Views.{IsRunnable}
-use Rattle.interp.specs.Wholes.{IsMain}
+use Rattle.instr_sound.specs.Mains.{IsRunnable, IsMain}
 
 some_same : {A : Type 0} {a b : A} → Some a ≡ Some b → a ≡ b
 some_same h = cc

@@ -14,7 +14,8 @@ use Rattle.interp.specs.Desks.{running, IsReady}
 use Rattle.interp.specs.Flatten.{roots_of}
 use Rattle.interp.specs.Goes.{Goes}
 use Rattle.interp.specs.Running.{IsOfChildren, IsPromised, view_of, kid_of, kids_of, below_of, own_roots_of, IsGoingAs, GoesOn, IsReserved}
-use Rattle.interp.specs.Views.{ThreadView, IsRunnable, IsKept, TreeReturns}
+use Rattle.instr_sound.specs.Mains.{IsRunnable}
+use Rattle.interp.specs.Views.{ThreadView, IsKept, TreeReturns}
 
 module _ {T : Type 0} (setting : T → Setting) (state : T → Source) (space : SpaceView) (r q : Running T) (s : IsReserved setting state r q) where
   pub reserved_goes : GoesOn setting state space r → GoesOn setting state space q

@@ -29,7 +29,9 @@ use Rattle.alloc_state.specs.Log.{Log}
 use Rattle.interp.specs.Answers.{IsAnswer}
 use Rattle.interp.specs.Running.{view_of}
 use Rattle.interp.specs.Views.{ThreadView}
-use Rattle.interp.specs.Wholes.{IsMain, AreLegal, logs_of, number_of_log}
+use Rattle.instr_sound.specs.Mains.{IsMain}
+use Rattle.run_memory.specs.States.{AreLegal, named_in}
+use Rattle.interp.specs.Wholes.{number_of_log}
 use Rattle.interp.proofs.Histories.{sum_counts, logs_legal, rises_of, entries_exact, stamps_above, AreNumbered, numbered_from, history_at, logs_rise}
 use Rattle.interp.proofs.Sorting.{sorted_rise}
 
@@ -40,7 +42,7 @@ pub main_answers : {T : Type 0} (setting : T → Setting) (state : T → Source)
 main_answers setting state hosts function m limits old desk logs main a =
     let y : Setting = setting_of (setting m).program (setting m).input hosts in
     let from : ThreadView = record { setting = y; state = main_start y } in
-    let same : view_of setting state m ≡ from = view_same (setting m) y (state m) main.setting_is main.state_is in
+    let same : view_of setting state m ≡ from = view_same (setting m) y (state m) main.runnable.setting main.state_is in
     subst (λ v. IsAnswer limits hosts (record { 0 = 0 }) None (main_of (setting m).program) v old logs desk) same
     (subst (λ f. IsAnswer limits hosts (record { 0 = 0 }) None f (view_of setting state m) old logs desk) main.function_is a)
   where
@@ -57,7 +59,7 @@ none_within (s ∷ ss) (suc k) lt is = none_within ss k (omega (arith, lt)) is
 
 module _ (program : Program) (input : List ℕ) (hosts : HostTable) (limits : Limits) (old desk : DeskView) (logs : List ThreadLog) (words : Counters) (states : List Log)
     (answer : IsAnswer limits hosts (record { 0 = 0 }) None (main_of program) (record { setting = setting_of program input hosts; state = main_start (setting_of program input hosts) }) old logs desk) (fresh : old.view.seen ≡ 0)
-    (counts : AreCounts desk.view words.stamps words.allocs words.threads) (many : length states ≡ limits.allocs) (whole : AreWhole desk states) (legal : AreLegal (logs_of states)) where
+    (counts : AreCounts desk.view words.stamps words.allocs words.threads) (many : length states ≡ limits.allocs) (whole : AreWhole desk states) (legal : AreLegal (named_in states)) where
   abbrev x : Setting
   x = setting_of program input hosts
 
@@ -67,22 +69,22 @@ module _ (program : Program) (input : List ℕ) (hosts : HostTable) (limits : Li
   numbered : AreNumbered 0 states
   numbered = numbered_from 0 states (λ k s is. (whole k s is).numbered ∙ (let same : suc k ≡ suc (0 + k) = omega arith in same))
 
-  closed : (a : ℕ) → 0 < a → a ≤ limits.allocs → IsClosedHistory objects logs a (history_of (logs_of states) a)
+  closed : (a : ℕ) → 0 < a → a ≤ limits.allocs → IsClosedHistory objects logs a (history_of (named_in states) a)
   closed a low high = by_state (a - 1) (omega (arith, low)) (slice_get states (a - 1)) refl
     where
-      by_state : (k : ℕ) → suc (0 + k) ≡ a → (o : Option Log) → slice_get states k ≡ o → IsClosedHistory objects logs a (history_of (logs_of states) a)
+      by_state : (k : ℕ) → suc (0 + k) ≡ a → (o : Option Log) → slice_get states k ≡ o → IsClosedHistory objects logs a (history_of (named_in states) a)
       by_state k place (Some s) is =
           let w = whole k s is in
           let exact : (h : Entry → ℕ) → sum_by h s.entries ≡ sum_by (naming a h) desk.view.calls = λ h. subst (λ n. sum_by h s.entries ≡ sum_by (naming n h) desk.view.calls) (omega (arith, place)) (w.exact h) in
-          let same : s.entries ≡ history_of (logs_of states) a = sym (history_at 0 k states s numbered is) ∙ ap (history_of (logs_of states)) place in
+          let same : s.entries ≡ history_of (named_in states) a = sym (history_at 0 k states s numbered is) ∙ ap (history_of (named_in states)) place in
           subst (λ es. IsClosedHistory objects logs a es) same (record {
             rises = rises_of 0 s.entries (stamps_above limits logs desk.view.calls answer.desk.calls above a low high s.entries exact) w.rising;
-            legal = subst (λ es. Legal objects (objects.unmade a) es) (sym same) (logs_legal (logs_of states) a legal);
+            legal = subst (λ es. Legal objects (objects.unmade a) es) (sym same) (logs_legal (named_in states) a legal);
             exact = entries_exact limits logs desk.view.calls answer.desk.calls above a low high s.entries exact;
           })
       by_state k place None is = absurd (none_within states k (omega (arith, place, high, many)) is)
 
-  whole_run : IsWholeRun (source x) objects (allowed limits hosts) limits (main_of program) (main_start x) logs (logs_of states) words
+  whole_run : IsWholeRun (source x) objects (allowed limits hosts) limits (main_of program) (main_start x) logs (named_in states) words
   whole_run = record {
     idle_allocs = answer.idle_allocs;
     idle_threads = answer.idle_threads;
@@ -94,7 +96,7 @@ module _ (program : Program) (input : List ℕ) (hosts : HostTable) (limits : Li
     histories = closed;
   }
 
-  pub run_is_right : (kept : RunRecord) → kept.allocs ≡ logs_of states → kept.words ≡ words → IsPermutation logs kept.threads → IsNonDecreasingBy number_of_log kept.threads → IsRightRecord program input hosts limits kept
+  pub run_is_right : (kept : RunRecord) → kept.allocs ≡ named_in states → kept.words ≡ words → IsPermutation logs kept.threads → IsNonDecreasingBy number_of_log kept.threads → IsRightRecord program input hosts limits kept
   run_is_right kept allocs counters same up =
       let all : IsWholeRun (source x) objects (allowed limits hosts) limits (main_of program) (main_start x) logs kept.allocs kept.words = rw (allocs, counters) whole_run in
       let differ = numbers_differ (source x) objects (allowed limits hosts) limits (main_of program) (main_start x) logs kept.allocs kept.words all in

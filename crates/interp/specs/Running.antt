@@ -27,7 +27,8 @@ use Rattle.interp.specs.declared.running.Running.{Running}
 use Rattle.interp.specs.Desks.{Over, running, IsReady}
 use Rattle.interp.specs.Flatten.{roots_of}
 use Rattle.interp.specs.Goes.{Kid, Goes}
-use Rattle.interp.specs.Views.{ThreadView, IsRunnable, Starts, IsKept, Begins, TreeReturns, EndFits}
+use Rattle.instr_sound.specs.Mains.{IsRunnable}
+use Rattle.interp.specs.Views.{ThreadView, Starts, IsKept, Begins, TreeReturns, EndFits}
 
 abbrev pub StartsOrJoins : Ask → Type 0
 StartsOrJoins (ask.Spawn f) = Unit {0}

@@ -3,21 +3,14 @@ use Rattle.std.specs.Prelude.{◌≡◌, ℕ, ◌<◌, ◌^◌, ◌⊎◌, true,
 use Rattle.std.specs.declared.option.Option.{Option}
 use Rattle.history.specs.declared.ask.Ask.{Ask}
 use Rattle.history.specs.declared.ask.Ask.TheVariants as ask
-use Rattle.history.specs.declared.ask.MachineEnd.{MachineEnd}
-use Rattle.history.specs.declared.ask.MachineEnd.TheVariants as end
 use Rattle.history.specs.declared.entry.Entry.{Entry}
 use Rattle.history.specs.declared.entry.Request.TheVariants as request
 use Rattle.history.specs.declared.log.End.{End}
 use Rattle.history.specs.declared.log.End.TheVariants as log_end
 use Rattle.history.specs.declared.log.ThreadLog.{ThreadLog}
 use Rattle.history.specs.Histories.{fits, HasBytes}
-use Rattle.ir_ast.specs.Numbers.{host_names}
-use Rattle.ir_ast.specs.Programs.{IsProgram}
-use Rattle.ir_ast.specs.Tokens.{Each}
-use Rattle.ir_ast.specs.declared.hosts.HostTable.{HostTable}
 use Rattle.ir_ast.specs.declared.program.Function.{Function}
 use Rattle.ir_ast.specs.declared.types.Ty.{Ty}
-use Rattle.ir_rules.specs.Rules.{IsAccepted}
 use Rattle.runs.specs.Parts.{Has, child_of, IsOnNumber}
 use Rattle.source_runs.specs.Invariant.{ResultFits, SourceFits, StartsWell}
 use Rattle.source_sem.specs.Joining.{ThreadStands}
@@ -39,13 +32,6 @@ answered v e = record { setting = v.setting; state = source_answer v.setting v.s
 
 abbrev pub child_view : ThreadView → ThreadView
 child_view v = record { setting = v.setting; state = source_child v.setting v.state }
-
--- the program is accepted with these host functions, and its input is one of bytes
-pub record IsRunnable (x : Setting) (hosts : HostTable) : Type 0 where
-  pub program : IsProgram x.program
-  pub accepted : IsAccepted x.program hosts
-  pub names : x.hosts ≡ host_names hosts.entries
-  pub input : Each (λ b. b < 256) x.input
 
 -- the type of a function's result
 abbrev pub result_in : Option Function → Option Ty
@@ -85,11 +71,6 @@ StepFits hosts (ask.At a r) = IsOnNumber r × (fits r ≡ true) × HasBytes r
 StepFits hosts (ask.Make size place) = fits (request.Make size place) ≡ true
 StepFits hosts (ask.Host n x y) = (n < hosts) × (x < 2 ^ 64) × (y < 2 ^ 64)
 StepFits hosts other = Unit {0}
-
--- how a log tells the end of its thread's own
-abbrev pub ended_as : MachineEnd → End
-ended_as (end.Returned w p) = log_end.Returned w p
-ended_as (end.Trapped t) = log_end.Trapped t
 
 -- a thread that returned has returned a value of its function's result
 abbrev pub EndFits : Setting → ℕ → End → Type 0

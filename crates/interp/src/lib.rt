@@ -6,7 +6,6 @@ mod child;
 mod program;
 mod run;
 mod running;
-mod settle;
 mod step;
 
 pub use calls::HostCalls;

@@ -1,50 +1,24 @@
 //! A whole run.
-ghost use Rattle.std.specs.Prelude.{◌≡◌, ◌++◌, [], IfOk, IsPermutation, OnOk, OnErr};
+ghost use Rattle.std.specs.Prelude.{◌≡◌, IfOk, IsPermutation, OnOk, OnErr};
 ghost use Rattle.std.specs.List.Sorted.{IsNonDecreasingBy};
-ghost use Rattle.alloc_space.specs.Spaces.{AreLimits};
+ghost use Rattle.alloc_space.specs.Spaces.{AreCountable};
 ghost use Rattle.history.specs.Records.{empty_record};
-ghost use Rattle.runs.specs.ReplayLaw.{with_history};
 ghost use Rattle.source_sem.specs.Records.{IsRightRecord};
-ghost use Rattle.interp.specs.Wholes.{IsMain, AreLegal, logs_of, number_of_log};
+ghost use Rattle.instr_sound.specs.Mains.{IsMain};
+ghost use Rattle.interp.specs.Wholes.{number_of_log};
 
 use crate::run::run_thread;
 use alloc_space::Space;
-use alloc_state::AllocState;
 use bsan_ids::{Limits, ListOf, NoMemory, ThreadNo};
-use history::{AllocLog, RunRecord, ThreadLog};
+use history::{RunRecord, ThreadLog};
 use hosts::Hosts;
 use instr_sound::Thread;
 use outside_io::Gate;
+use run_memory::logs_of;
 use run_record::ThreadTree;
 use std::alloc::Global;
 use std::sync::Wait;
 use std::thread::Threads;
-
-// Appends the log of an allocation that an entry names.
-fn push_log(logs: &mut ListOf<AllocLog>, state: AllocState) -> Result<(), NoMemory>
-    ensures logs { OnOk result (logs.new ≡ logs.old ++ with_history state.number.0 state.entries []) }
-    ensures legal { OnOk result (AreLegal logs.old → AreLegal logs.new) }
-{
-    let number = state.number();
-    let entries = state.into_entries();
-    if entries.is_empty() {
-        return Ok(());
-    }
-    logs.push(AllocLog { number, entries })?;
-    Ok(())
-}
-
-// The logs of the allocations that an entry names, in the order of their numbers.
-fn alloc_logs(alloc: Global, states: Vec<AllocState>) -> Result<ListOf<AllocLog>, NoMemory>
-    ensures logs { IfOk result (λ logs. logs ≡ logs_of states.items) }
-    ensures legal { IfOk result AreLegal }
-{
-    let mut logs = ListOf::new(alloc);
-    for state in states {
-        push_log(&mut logs, state)?;
-    }
-    Ok(logs)
-}
 
 // The logs of a tree, in the order of their numbers.
 fn ordered_logs(alloc: Global, tree: ThreadTree) -> Result<ListOf<ThreadLog>, NoMemory>
@@ -68,7 +42,7 @@ fn whole_run<T: Thread + Send, R: Threads + Wait + Sync, G: Gate + Sync>(
     hosts: &Hosts,
 ) -> Result<RunRecord, NoMemory>
     requires main { IsMain T.setting T.state hosts.now.table function machine }
-    requires limits { AreLimits limits.now }
+    requires limits { AreCountable limits.now }
     ensures { IfOk result (IsRightRecord (T.setting machine).program (T.setting machine).input hosts.now.table limits.now) }
 {
     let (space, desk) = Space::new(alloc, limits)?;
@@ -79,7 +53,7 @@ fn whole_run<T: Thread + Send, R: Threads + Wait + Sync, G: Gate + Sync>(
     let (words, states) = space.finish(desk)?;
     Ok(RunRecord {
         threads: ordered_logs(alloc, tree)?,
-        allocs: alloc_logs(alloc, states)?,
+        allocs: logs_of(alloc, states)?,
         words,
     })
 }
@@ -106,7 +80,7 @@ pub fn run_program<T: Thread + Send, R: Threads + Wait + Sync, G: Gate + Sync>(
     kept: &mut RunRecord,
 ) -> Result<(), NoMemory>
     requires main { IsMain T.setting T.state hosts.now.table function machine }
-    requires limits { AreLimits limits.now }
+    requires limits { AreCountable limits.now }
     ensures right { OnOk result (IsRightRecord (T.setting machine).program (T.setting machine).input hosts.now.table limits.now kept.new) }
     ensures empty { OnErr result (kept.new ≡ empty_record) }
 {

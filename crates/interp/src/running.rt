@@ -8,22 +8,21 @@ ghost use Rattle.runs.specs.Threads.{AsksSpawn};
 ghost use Rattle.runs.specs.Tree.{HasStopped};
 ghost use Rattle.runs.specs.Machine.{MayGoOn};
 ghost use Rattle.source_sem.specs.Source.{source, source_ask};
-ghost use Rattle.alloc_space.specs.Spaces.{AreLimits};
+ghost use Rattle.alloc_space.specs.Spaces.{AreCountable};
 ghost use Rattle.interp.specs.Answers.{IsAnswer};
 ghost use Rattle.interp.specs.Advanced.{Advanced, IsOngoing};
 ghost use Rattle.interp.specs.Came.{AsksPlainly};
 ghost use Rattle.interp.specs.Desks.{Over, IsReady};
 ghost use Rattle.interp.specs.Running.{view_of, below_of, own_roots_of, IsGoing, IsThere, GoesOn, HasEnded, CameTo, Waits, IsReserved, IsSameThread, IsBegun, IsFirst, IsPromiseOf};
-ghost use Rattle.interp.specs.Views.{ended_as, child_view};
+ghost use Rattle.interp.specs.Views.{child_view};
 
 use crate::calls::HostCalls;
 use crate::child::{Begun, Child, TreeOf};
-use crate::settle::{Halt, settle};
 use crate::step::{Came, step};
 use alloc_space::{Desk, Space, Stepped};
 use bsan_ids::{ListOf, NoMemory, Prov, ThreadNo};
-use history::{Ask, End, Entry, MachineEnd, Plain, Reply, Request, ThreadLog, Trap, Verdict};
-use instr_sound::Thread;
+use history::{Ask, End, Entry, Plain, Reply, Request, ThreadLog, Trap, Verdict};
+use instr_sound::{Thread, end_by, settle};
 use ir_ast::HostTable;
 use outside_io::Gate;
 use run_record::ThreadTree;
@@ -49,16 +48,6 @@ pub struct Running<T: Thread> {
     pub hosts: Snapshot<HostTable>,
 }
 
-// The end of a log whose thread has ended so.
-fn ended(end: MachineEnd) -> End
-    ensures { result ≡ ended_as end }
-{
-    match end {
-        MachineEnd::Returned { value, carried } => End::Returned { value, carried },
-        MachineEnd::Trapped(trap) => End::Trapped(trap),
-    }
-}
-
 /// What a thread has come to.
 #[derive(Drop)]
 pub(crate) enum Advance<T> {
@@ -79,7 +68,7 @@ impl<T: Thread> Running<T> {
     ) -> Option<End>
         requires on { GoesOn T.setting T.state space.now self.old }
         requires hosts { self.old.hosts.value ≡ H.table hosts.now }
-        requires ranges { AreLimits space.now.limits }
+        requires countable { AreCountable space.now.limits }
         requires asks { ask ≡ source_ask (T.setting self.old.machine) (T.state self.old.machine) }
         requires may { MayGoOn (source (T.setting self.old.machine)) space.now.limits.turns (T.state self.old.machine) }
         requires step { AsksPlainly ask }
@@ -133,12 +122,11 @@ impl<T: Thread> Running<T> {
         let limits = space.limits();
         let ask = match settle(&mut self.machine, limits.turns) {
             Ok(ask) => ask,
-            Err(Halt::TurnLimit) => return Ok(Some(End::TurnLimit)),
-            Err(Halt::NoMemory) => return Ok(Some(End::NoMemory)),
+            Err(why) => return Ok(Some(why)),
         };
         match ask {
             Ask::Turn => unreachable!(),
-            Ask::Ended(end) => Ok(Some(ended(end))),
+            Ask::Ended(end) => Ok(Some(end_by(end))),
             Ask::Spawn { function } => Err(Ask::Spawn { function }),
             Ask::Join { child } => Err(Ask::Join { child }),
             step => Ok(self.make_step(rt, space, gate, hosts, step)),

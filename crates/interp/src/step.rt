@@ -5,7 +5,7 @@ ghost use Rattle.history.specs.declared.ask.Ask.TheVariants as ask;
 ghost use Rattle.history.specs.declared.entry.Request.TheVariants.{Make};
 ghost use Rattle.ir_ast.specs.declared.hosts.HostTable.{HostTable};
 ghost use Rattle.runs.specs.Parts.{IsOnNumber};
-ghost use Rattle.alloc_space.specs.Spaces.{AreLimits};
+ghost use Rattle.alloc_space.specs.Spaces.{AreCountable};
 ghost use Rattle.interp.specs.Came.{AsksPlainly, CameBy};
 ghost use Rattle.interp.specs.Desks.{IsReady};
 ghost use Rattle.interp.specs.Views.{StepFits};
@@ -38,7 +38,7 @@ pub(crate) fn make<R: Wait, G: Gate>(
 ) -> Came
     requires own { desk.old.table ≡ space.now.table }
     requires ready { IsReady space.now.limits desk.old.view }
-    requires ranges { AreLimits space.now.limits }
+    requires countable { AreCountable space.now.limits }
     requires fitting { fits (Make size place) ≡ true }
     ensures { (hosts : HostTable) → CameBy space.now.limits hosts number site (ask.Make size place) desk.old desk.new result }
 {
@@ -140,7 +140,7 @@ pub(crate) fn step<R: Wait, G: Gate, H: HostCalls>(
 ) -> Came
     requires own { desk.old.table ≡ space.now.table }
     requires ready { IsReady space.now.limits desk.old.view }
-    requires ranges { AreLimits space.now.limits }
+    requires countable { AreCountable space.now.limits }
     requires fits { StepFits (length (H.table hosts.now).entries) ask }
     requires step { AsksPlainly ask }
     ensures { CameBy space.now.limits (H.table hosts.now) number site ask desk.old desk.new result }

@@ -1,5 +1,6 @@
 pub mod Counts
 pub mod Reading
+pub mod Unread
 pub mod Putting
 pub mod Room
 pub mod Held

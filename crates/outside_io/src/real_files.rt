@@ -1,5 +1,9 @@
 //! The files of the system.
-ghost use Rattle.std.specs.Prelude.{◌≡◌, ◌≢◌, ◌≤◌, ℕ, List, length, None};
+ghost use Rattle.std.specs.Prelude.{◌≡◌, ◌≢◌, ◌≤◌, ◌<◌, ◌+◌, ◌++◌, ℕ, List, [], length, take, None, Err, IfOk, IfErr, OnOk, OnErr, IsOkAnd, IsErrOf, MatchResult};
+ghost use Rattle.std.specs.IoError.{error_kind};
+ghost use Rattle.std.specs.Io.KnownBytes.{IsAtEnd};
+ghost use Rattle.outside_io.specs.Reading.{Tells, IsLongerThan};
+ghost use Rattle.outside_io.specs.Unread.{unread_by};
 
 use crate::{FileFault, Files};
 use std::io::Read;
@@ -28,38 +32,84 @@ impl<'r, R: rt::Files> RealFiles<'r, R> {
     }
 }
 
+// Why a file was not read, where the system answers with this error.
 fn fault_of(error: &io::Error) -> FileFault
-    ensures { result ≢ FileFault.TooLong }
+    ensures { result ≡ unread_by (error_kind error.now) }
 {
-    if error.kind() == io::ErrorKind::OutOfMemory {
-        FileFault::NoMemory
-    } else {
-        FileFault::Failed
+    match error.kind() {
+        io::ErrorKind::OutOfMemory => FileFault::NoMemory,
+        _ => FileFault::Failed,
+    }
+}
+
+// The bytes that a read put at the front of a buffer, or why it put none.
+fn piece_of<'b>(read: io::Result<usize>, buffer: &'b [u8]) -> Result<&'b [u8], FileFault>
+    requires { IfOk read (λ count. count ≤ length buffer.now) }
+    ensures { MatchResult read
+        (λ count. IsOkAnd result (λ piece. piece.now ≡ take count buffer.entry.now))
+        (λ error. IsErrOf result (unread_by (error_kind error))) }
+{
+    match read {
+        Ok(count) => Ok(&buffer[..count]),
+        Err(error) => Err(fault_of(&error)),
+    }
+}
+
+// Adds a piece to what is held, which is to have at most `limit` bytes.
+fn add_piece(piece: &[u8], limit: u64, into: &mut Vec<u8>) -> Result<(), FileFault>
+    requires { length into.old.items ≤ limit }
+    ensures added { OnOk result (into.new.items ≡ into.old.items ++ piece.now) }
+    ensures kept { OnErr result (into.new.items ≡ into.old.items) }
+    ensures within { length into.new.items ≤ limit }
+    ensures too_long { IsErrOf result FileFault.TooLong → limit < length into.old.items + length piece.now }
+    ensures reads { result ≢ Err FileFault.Failed }
+{
+    if piece.len() as u64 > limit - into.len() as u64 {
+        return Err(FileFault::TooLong);
+    }
+    match into.extend_from_slice(piece) {
+        Ok(()) => Ok(()),
+        Err(_) => Err(FileFault::NoMemory),
     }
 }
 
 // Reads to the end, or until there are more bytes than the limit, of which it never holds more.
 fn read_within<F: Read>(file: &mut F, limit: u64, into: &mut Vec<u8>) -> Result<(), FileFault>
-    ensures { length into.new.items ≤ limit }
+    ensures read { OnOk result (Tells (F.remaining file.old) into.new.items) }
+    ensures end { OnOk result (IsAtEnd (F.remaining file.new)) }
+    ensures within { length into.new.items ≤ limit }
+    ensures longer { IsErrOf result FileFault.TooLong → IsLongerThan limit (F.remaining file.old) }
 {
     into.clear();
     let mut buffer = [0; 4096];
     for _ in 0..u64::MAX {
-        let count = match file.read(&mut buffer) {
-            Ok(count) => count,
-            Err(error) => return Err(fault_of(&error)),
-        };
-        if count == 0 {
+        let read = file.read(&mut buffer);
+        let piece = piece_of(read, &buffer)?;
+        if piece.is_empty() {
             return Ok(());
         }
-        if count as u64 > limit.saturating_sub(into.len() as u64) {
-            return Err(FileFault::TooLong);
-        }
-        if into.extend_from_slice(&buffer[..count]).is_err() {
-            return Err(FileFault::NoMemory);
-        }
+        add_piece(piece, limit, into)?;
     }
     Err(FileFault::Failed)
+}
+
+// Reads a file where it was opened.
+fn read_opened<F: Read + Drop>(
+    opened: io::Result<F>,
+    limit: u64,
+    into: &mut Vec<u8>,
+) -> Result<(), FileFault>
+    ensures read { OnOk result (IsOkAnd opened (λ file. Tells (F.remaining file) into.new.items)) }
+    ensures within { length into.new.items ≤ limit }
+    ensures longer { IsErrOf result FileFault.TooLong
+        → IsOkAnd opened (λ file. IsLongerThan limit (F.remaining file)) }
+    ensures unopened { IfErr opened (λ error. IsErrOf result (unread_by (error_kind error))) }
+{
+    into.clear();
+    match opened {
+        Ok(mut file) => read_within(&mut file, limit, into),
+        Err(error) => Err(fault_of(&error)),
+    }
 }
 
 impl<R: rt::Files> Files for RealFiles<'_, R> {
@@ -70,19 +120,15 @@ impl<R: rt::Files> Files for RealFiles<'_, R> {
     ghost overlong = { λ files _ _. files.overlong };
 
     fn read_file(&mut self, name: &str, limit: u64, into: &mut Vec<u8>) -> Result<(), FileFault> {
-        let fault = match fs::open(self.rt, name) {
-            Ok(mut file) => match read_within(&mut file, limit, into) {
-                Ok(()) => return Ok(()),
-                Err(fault) => fault,
-            },
-            Err(error) => fault_of(&error),
-        };
-        into.clear();
-        match fault {
-            FileFault::Failed => self.faults = self.faults.saturating_add(1),
-            FileFault::TooLong => self.overlong = self.overlong.saturating_add(1),
-            FileFault::NoMemory => {}
+        let read = read_opened(fs::open(self.rt, name), limit, into);
+        if let Err(fault) = read {
+            into.clear();
+            match fault {
+                FileFault::Failed => self.faults = self.faults.saturating_add(1),
+                FileFault::TooLong => self.overlong = self.overlong.saturating_add(1),
+                FileFault::NoMemory => {}
+            }
         }
-        Err(fault)
+        read
     }
 }

@@ -1,12 +1,8 @@
-ghost use Rattle.std.specs.Prelude.{◌≤◌, length, IfOk};
-
 use crate::{FileFault, Files, MemFiles, MemSink, PutFault, RealFiles, RealSink, Sink};
 use bsan_ids::Name;
-use std::cell::Cell;
-use std::fmt::Display;
+use std::fs;
 use std::test::Fail;
 use std::time::Clock;
-use std::{fs, io};
 
 #[test]
 fn reads_files_in_memory(rt: HostRuntime) -> Result<(), Fail> {
@@ -81,51 +77,13 @@ fn reads_the_files_of_the_system(rt: HostRuntime) -> Result<(), Fail> {
     Ok(())
 }
 
-// An output that takes a byte at a time, four in all.
-#[derive(Drop)]
-struct Dripping {
-    taken: Cell<[u8; 4]>,
-    count: Cell<usize>,
-}
-
-impl Print for Dripping {
-    fn print<D: Display + Drop>(&self, _value: D) -> io::Result<()> {
-        Err(io::Error::from(io::ErrorKind::Unsupported))
-    }
-
-    fn println<D: Display + Drop>(&self, _value: D) -> io::Result<()> {
-        Err(io::Error::from(io::ErrorKind::Unsupported))
-    }
-
-    fn write_all(&self, _bytes: &[u8]) -> io::Result<()> {
-        Err(io::Error::from(io::ErrorKind::Unsupported))
-    }
-
-    fn write_some(&self, bytes: &[u8]) -> io::Result<usize>
-        ensures bound { IfOk result (λ n. n ≤ length bytes.now) }
-    {
-        let count = self.count.get();
-        let mut taken = self.taken.get();
-        if bytes.is_empty() || count >= taken.len() {
-            return Ok(0);
-        }
-        taken[count] = bytes[0];
-        self.taken.set(taken);
-        self.count.set(count + 1);
-        Ok(1)
-    }
-}
-
 #[test]
 fn writes_to_an_output(rt: HostRuntime) {
-    let output = Dripping {
-        taken: Cell::new([0; 4]),
-        count: Cell::new(0),
-    };
-    let mut sink = RealSink::new(&output);
+    let mut room = [0; 4];
+    let mut sink = RealSink::new(&mut room[..]);
     let whole = sink.put(b"abc");
     assert_eq!(rt; whole, Ok(()));
     let cut = sink.put(b"de");
     assert_eq!(rt; cut, Err(PutFault::Failed));
-    assert_eq!(rt; output.taken.get(), *b"abcd");
+    assert_eq!(rt; room, *b"abcd");
 }

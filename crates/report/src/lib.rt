@@ -11,5 +11,7 @@ mod text;
 mod violation;
 mod words;
 
+pub use counts::{make_count, step_count};
 pub use text::{part, status_of, text_of};
 pub use violation::{violation_line, what};
+pub use words::perm_name;

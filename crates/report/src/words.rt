@@ -5,7 +5,7 @@ ghost use Rattle.report.specs.Words as words;
 use history::Trap;
 use perm_table::Perm;
 
-/// The name of a state.
+/// The name of a node's state, as a report writes it.
 pub fn perm_name(perm: Perm) -> &'static str
     ensures { result.now ≡ words.perm_name perm }
 {

@@ -1,6 +1,6 @@
 //! Programs with a native thread for each of their threads, and their reports.
 ghost use Rattle.std.specs.Prelude.{◌<◌, length};
-ghost use Rattle.alloc_space.specs.Spaces.{AreLimits};
+ghost use Rattle.alloc_space.specs.Spaces.{AreCountable};
 ghost use Rattle.hosts.specs.Rules.{IsAnswer};
 ghost use Rattle.hosts.specs.Standard.{standard_table};
 
@@ -16,7 +16,7 @@ use std::test::Fail;
 use std::thread::Threads;
 
 fn limits() -> Limits
-    ensures { AreLimits result }
+    ensures { AreCountable result }
 {
     Limits {
         steps: 100_000,

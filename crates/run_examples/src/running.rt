@@ -1,6 +1,6 @@
 //! The run of a text.
 ghost use Rattle.std.specs.Prelude.{◌≡◌, ◌<◌, length, IfOk};
-ghost use Rattle.alloc_space.specs.Spaces.{AreLimits};
+ghost use Rattle.alloc_space.specs.Spaces.{AreCountable};
 ghost use Rattle.report.specs.Report.{IsReportable};
 
 use bsan_ids::Limits;
@@ -26,7 +26,7 @@ pub(crate) fn record_of<R: Threads + Wait + Sync, G: Gate + Sync>(
     gate: &G,
     hosts: &Hosts,
 ) -> Result<RunRecord, Fail>
-    requires { AreLimits limits.now }
+    requires { AreCountable limits.now }
     ensures { IfOk result IsReportable }
 {
     let Ok(program) = read(alloc, text.as_bytes()) else {

@@ -7,7 +7,8 @@ use Rattle.bsan_ids.specs.declared.numbers.Counters.{Counters}
 use Rattle.history.specs.declared.entry.Entry.{Entry}
 use Rattle.alloc_state.specs.Log.{Log}
 use Rattle.history.specs.declared.log.AllocLog.{AllocLog}
-use Rattle.run_memory.specs.Memory.{log_at, with_named, named_from}
+use Rattle.runs.specs.ReplayLaw.{with_history}
+use Rattle.run_memory.specs.Memory.{log_at, named_from}
 use Rattle.bsan_ids.specs.declared.numbers.Limits.{Limits}
 use Rattle.run_memory.specs.States.{IsState, AreStates, IsTable, IsLonger, logs_in, fresh_from, named_in}
 
@@ -103,15 +104,15 @@ log_is (x ∷ xs) (suc k) l got = log_is xs k l got
 pub named_is : (a : ℕ) (w : Counters) (ls : List Log) → AreStates a w ls → named_in ls ≡ named_from a (logs_in ls)
 named_is a w [] h = refl
 named_is a w (l ∷ ls) h =
-    ap (λ n. with_named n l.entries (named_in ls)) h.0.number ∙ ap (λ logs. with_named a l.entries logs) (named_is (suc a) w ls h.1)
+    ap (λ n. with_history n l.entries (named_in ls)) h.0.number ∙ ap (λ logs. with_history a l.entries logs) (named_is (suc a) w ls h.1)
 
-with_more : (a : ℕ) (es : List Entry) (logs more : List AllocLog) → with_named a es (logs ++ more) ≡ with_named a es logs ++ more
+with_more : (a : ℕ) (es : List Entry) (logs more : List AllocLog) → with_history a es (logs ++ more) ≡ with_history a es logs ++ more
 with_more a [] logs more = refl
 with_more a (e ∷ es) logs more = refl
 
-pub named_more : (ls : List Log) (l : Log) → named_in (ls ++ l ∷ []) ≡ named_in ls ++ with_named l.number.0 l.entries []
+pub named_more : (ls : List Log) (l : Log) → named_in (ls ++ l ∷ []) ≡ named_in ls ++ with_history l.number.0 l.entries []
 named_more [] l = refl
-named_more (x ∷ xs) l = ap (λ logs. with_named x.number.0 x.entries logs) (named_more xs l) ∙ with_more x.number.0 x.entries (named_in xs) (with_named l.number.0 l.entries [])
+named_more (x ∷ xs) l = ap (λ logs. with_history x.number.0 x.entries logs) (named_more xs l) ∙ with_more x.number.0 x.entries (named_in xs) (with_history l.number.0 l.entries [])
 
 -- one more state of a number that was never asked --------------------------------------------------------
 
@@ -128,16 +129,6 @@ grows_by number old mid new l h added less fresh =
       added = added ∙ ap (λ (m : List Log). m ++ l ∷ []) h.added ∙ append_assoc old (fresh_from b h.more) (l ∷ []) ∙ ap (λ (x : Log). old ++ (fresh_from b h.more ++ x ∷ [])) last ∙ ap (λ (m : List Log). old ++ m) (one_more b h.more);
       within = omega (arith, longer, less);
     }
-
-pub named_push : (ls : List Log) (logs : List AllocLog) (l : Log) → logs ≡ named_in ls → (l.entries ≡ [] → ⊥) → logs ++ record { number = l.number; entries = l.entries } ∷ [] ≡ named_in (ls ++ l ∷ [])
-named_push ls logs l is some = ap (λ (x : List AllocLog). x ++ record { number = l.number; entries = l.entries } ∷ []) is ∙ ap (λ (x : List AllocLog). named_in ls ++ x) (sym (with_some l.number.0 l.entries some)) ∙ sym (named_more ls l)
-  where
-    with_some : (a : ℕ) (es : List Entry) → (es ≡ [] → ⊥) → with_named a es [] ≡ record { number = record { 0 = a }; entries = es } ∷ []
-    with_some a [] some = absurd (some refl)
-    with_some a (e ∷ es) some = refl
-
-pub named_skip : (ls : List Log) (logs : List AllocLog) (l : Log) → logs ≡ named_in ls → l.entries ≡ [] → logs ≡ named_in (ls ++ l ∷ [])
-named_skip ls logs l is none = is ∙ sym (named_more ls l ∙ ap (λ (es : List Entry). named_in ls ++ with_named l.number.0 es []) none ∙ append-nil (named_in ls))
 
 pub ok_by : {X E : Type 0} (r : Result X E) (a b : X) → IfOk r (λ x. x ≡ a) → a ≡ b → IfOk r (λ x. x ≡ b)
 ok_by (Ok x) a b h is = h ∙ is

@@ -16,6 +16,7 @@ use Rattle.history.specs.Objects.{Object, unmade, answer}
 use Rattle.ir_ast.specs.declared.types.Place.{Place}
 use Rattle.history.specs.declared.log.AllocLog.{AllocLog}
 use Rattle.history.specs.declared.log.End.TheVariants.{Trapped, StepLimit, NoMemory}
+use Rattle.runs.specs.ReplayLaw.{with_history}
 use Rattle.run_memory.specs.declared.states.Step.{Step}
 use Rattle.run_memory.specs.declared.states.Step.TheVariants.{Done, Ends}
 
@@ -141,10 +142,6 @@ Starts old thread site function new (Ends (Trapped (ThreadLimit d))) = (d ≡ ol
 Starts old thread site function new (Ends why) = ⊥
 
 -- the logs of the numbers that an entry names, the first list that of the number a
-abbrev pub with_named : ℕ → List Entry → List AllocLog → List AllocLog
-with_named a [] logs = logs
-with_named a (e ∷ es) logs = record { number = record { 0 = a }; entries = e ∷ es } ∷ logs
-
 abbrev pub named_from : ℕ → List (List Entry) → List AllocLog
 named_from a [] = []
-named_from a (es ∷ rest) = with_named a es (named_from (suc a) rest)
+named_from a (es ∷ rest) = with_history a es (named_from (suc a) rest)

@@ -8,14 +8,15 @@ use Rattle.bsan_ids.specs.declared.numbers.Stamp.{Stamp}
 use Rattle.bsan_ids.specs.declared.numbers.ThreadNo.{ThreadNo}
 use Rattle.history.specs.declared.entry.Entry.{Entry}
 use Rattle.history.specs.declared.entry.Request.{Request}
-use Rattle.history.specs.Histories.{replay, is_make}
+use Rattle.history.specs.Histories.{replay, is_make, IsHistory}
 use Rattle.history.specs.Objects.{unmade, answer}
 use Rattle.alloc_state.specs.Log.{Log, has_make}
 use Rattle.history.specs.declared.log.End.TheVariants.{StepLimit, NoMemory}
+use Rattle.runs.specs.ReplayLaw.{with_history}
 use Rattle.run_memory.specs.declared.states.Step.{Step}
 use Rattle.run_memory.specs.declared.states.Step.TheVariants.{Done, Ends}
 use Rattle.history.specs.declared.log.AllocLog.{AllocLog}
-use Rattle.run_memory.specs.Memory.{Memory, with_stamp, with_named}
+use Rattle.run_memory.specs.Memory.{Memory, with_stamp}
 
 -- a state has the number a, its entries are no later than the clock, and it isn't made before its number is drawn
 pub record IsState (a : ℕ) (words : Counters) (l : Log) : Type 0 where
@@ -94,7 +95,11 @@ StepsOn old words steps thread site request new after (Ends why) = ⊥
 -- the logs of the numbers that an entry names
 abbrev pub named_in : List Log → List AllocLog
 named_in [] = []
-named_in (l ∷ ls) = with_named l.number.0 l.entries (named_in ls)
+named_in (l ∷ ls) = with_history l.number.0 l.entries (named_in ls)
+
+-- each log is a legal history of its number
+abbrev pub AreLegal : List AllocLog → Type 0
+AreLegal logs = All (λ (log : AllocLog). IsHistory log.number.0 log.entries) logs
 
 -- a step on a number that was never asked, and isn't kept
 abbrev pub StepsAside : Counters → ℕ → ThreadNo → ℕ → AllocNo → Request → Counters → Step → Type 0

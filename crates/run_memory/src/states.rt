@@ -1,10 +1,11 @@
 //! The states of allocations, by their numbers.
-ghost use Rattle.std.specs.Prelude.{◌≡◌, ◌+◌, ◌<◌, ◌≤◌, ◌^◌, IsTrue, All, OnOk, IfOk, true, false, length};
+ghost use Rattle.std.specs.Prelude.{◌≡◌, ◌++◌, ◌+◌, ◌<◌, ◌≤◌, ◌^◌, [], IsTrue, All, OnOk, IfOk, true, false, length};
 ghost use Rattle.history.specs.Histories.{HasBytes, fits, is_make};
 ghost use Rattle.alloc_state.specs.Log.{has_make};
 ghost use Rattle.history.specs.declared.entry.Request.TheVariants as request;
+ghost use Rattle.runs.specs.ReplayLaw.{with_history};
 ghost use Rattle.run_memory.specs.Memory.{with_stamp, Asks, Makes};
-ghost use Rattle.run_memory.specs.States.{IsLonger, IsTable, TableAfter, memory_in, StepsOn, StepsAside, IsNextStamp, named_in, is_out_of_memory};
+ghost use Rattle.run_memory.specs.States.{AreLegal, IsLonger, IsTable, TableAfter, memory_in, StepsOn, StepsAside, IsNextStamp, named_in, is_out_of_memory};
 
 use alloc_state::AllocState;
 use bsan_ids::{AllocNo, Counters, Limits, ListOf, NoMemory, Stamp, ThreadNo};
@@ -161,25 +162,32 @@ fn is_out_of_memory(step: &Step) -> bool
     matches!(step, Step::Ends(End::NoMemory))
 }
 
-fn log_of(state: AllocState) -> AllocLog
-    ensures { result ≡ record { number = state.number; entries = state.entries } }
+/// Appends the log of an allocation that an entry names.
+fn push_log(logs: &mut ListOf<AllocLog>, state: AllocState) -> Result<(), NoMemory>
+    ensures logs { OnOk result (logs.new ≡ logs.old ++ with_history state.number.0 state.entries []) }
+    ensures legal { OnOk result (AreLegal logs.old → AreLegal logs.new) }
 {
-    AllocLog {
-        number: state.number(),
-        entries: state.into_entries(),
+    let number = state.number();
+    let entries = state.into_entries();
+    if entries.is_empty() {
+        return Ok(());
     }
+    logs.push(AllocLog { number, entries })?;
+    Ok(())
 }
 
-/// The logs of the numbers that an entry names.
-pub(crate) fn logs_of(alloc: Global, states: Vec<AllocState>) -> Result<ListOf<AllocLog>, NoMemory>
-    ensures { IfOk result (λ logs. logs ≡ named_in states.items) }
+/// The logs of the allocations that an entry names, in the order of the states. Each is a legal history of its number.
+///
+/// # Errors
+///
+/// `NoMemory`: out of memory.
+pub fn logs_of(alloc: Global, states: Vec<AllocState>) -> Result<ListOf<AllocLog>, NoMemory>
+    ensures logs { IfOk result (λ logs. logs ≡ named_in states.items) }
+    ensures legal { IfOk result AreLegal }
 {
     let mut logs = ListOf::new(alloc);
     for state in states {
-        let log = log_of(state);
-        if !log.entries.is_empty() {
-            logs.push(log)?;
-        }
+        push_log(&mut logs, state)?;
     }
     Ok(logs)
 }

@@ -3,7 +3,6 @@
 #![tactic(auto)]
 
 mod case;
-mod counts;
 mod hold;
 mod laws;
 mod line;

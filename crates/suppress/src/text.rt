@@ -8,11 +8,10 @@ ghost use Rattle.suppress.specs.Held as hushed;
 ghost use Rattle.suppress.specs.Held.{is_held, is_shown};
 
 use crate::case::case_of;
-use crate::counts::{make_count, step_count};
 use crate::hold::Hold;
 use bsan_ids::NoMemory;
 use history::Entry;
-use report::{part, status_of, violation_line};
+use report::{make_count, part, status_of, step_count, violation_line};
 use run_record::{AllocLog, RunRecord};
 use std::alloc::{AllocError, Global};
 

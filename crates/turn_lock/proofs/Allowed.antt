@@ -4,6 +4,7 @@ use mathlib.Core.Option.{some, none}
 use mathlib.Core.Logic.{dite}
 use native.Mathlib.Decide.{ℕ_discrete, dec_le}
 use prog.Atomic.{either}
+use lib.ListN.{get_elem?}
 use lib.Seq.{set-get_or}
 use Rattle.atomic_table.proofs.Lists.{exchanged, set_again}
 use Rattle.std.proofs.lemmas.List.Sums.{sum_by-cons, get_or-le-sum_by}
@@ -16,13 +17,14 @@ use Rattle.turn_lock.specs.Rule.{RuleHolds, Slot}
 use Rattle.turn_lock.specs.declared.view.HeldTurn.{HeldTurn}
 use Rattle.turn_lock.specs.Steps.{drew_stamp, drew_alloc, drew_thread, chose, split_left, split_right, took, gave}
 use Rattle.turn_lock.proofs.Partings.{splits}
-use Rattle.turn_lock.specs.Plays.{StampDrawn, AllocDrawn, ThreadDrawn, NameChosen, TurnTaken, TakenAt, TurnGiven, GivenAt, Extends, IsDesk, Carries}
+use Rattle.turn_lock.specs.Plays.{StampDrawn, AllocDrawn, ThreadDrawn, NameChosen, TurnTaken, TakenAt, WaitMarked, TurnGiven, GivenAt, Extends, IsDesk, Carries}
 use Rattle.atomic_table.specs.Seated.{TableId}
 use Rattle.turn_lock.proofs.Numbers.{above_cases, equals_same, sum_up_to_beyond}
 use Rattle.turn_lock.proofs.Sums.{sum_at}
 use Rattle.turn_lock.proofs.Bounds.{clock_bound, alloc_bound, thread_bound}
 use Rattle.turn_lock.proofs.Draws.{consistent_of, draws_stamp, draws_alloc, draws_thread, chooses}
 use Rattle.turn_lock.proofs.Taking.{tells, takes_turn}
+use Rattle.turn_lock.proofs.Waiting.{marks_turn}
 use Rattle.turn_lock.proofs.Giving.{gives}
 
 none_above : (limit : ℕ) (xs : List ℕ) → All (λ n. n ≤ limit) xs → sum_by (above limit) xs ≡ 0
@@ -101,6 +103,10 @@ module _ {X : Type 0} (number : X → ℕ) (entries : X → List Entry) where
         (refl, fits.name, (let a = unknown in omega arith), (let a = unknown in omega arith), (λ k d lt. counted _ (inside_own k d lt)), (λ k d lt. counted _ (inside_joined k d lt)), omega arith),
       )
 
+  -- a step that finds another word than it expects changes nothing
+  misses : (s : State (Option X) View) → Rule s → (i id : ℕ) (v : View) → get_elem? s.views id ≡ some v → Rule record { words = set s.words i (slice_index s.words i); homes = s.homes; views = set s.views id v }
+  misses s kept i id v present = subst (λ (z : List ℕ × List View). Rule record { words = z.0; homes = s.homes; views = z.1 }) (λ j. (sym (set-get_or s.words i 0) j, sym (set_again s.views id v present) j)) kept
+
   -- a step that changes no word and no weight of the view
   pub allows_choice : (slots id : ℕ) (me : Me (Option X) View) (a : ℕ) → me.0.live ≡ true → Allows Rule slots id me 0 (λ n. either (eqb n a) a n) (NameChosen (step slots 0 a a none) me)
   allows_choice slots id me a live s kept _ present _ =
@@ -113,20 +119,20 @@ module _ {X : Type 0} (number : X → ℕ) (entries : X → List Entry) where
         refl,
       )
 
-  pub allows_take : (slots id k : ℕ) (me : Me (Option X) View) → me.0.live ≡ true → me.0.turn ≡ None → k < slots
-      → Allows Rule slots id me (k + 3) (λ n. either (eqb n 0) 1 n) (TurnTaken number entries (step slots (k + 3) 0 1 none) me)
-  allows_take slots id k me live idle inside s kept count present _ =
+  pub allows_take : (slots id k word : ℕ) (me : Me (Option X) View) → 1 ≤ word → word ≤ 2 → me.0.live ≡ true → me.0.turn ≡ None → k < slots
+      → Allows Rule slots id me (k + 3) (λ n. either (eqb n 0) word n) (TurnTaken number entries (step slots (k + 3) 0 word none) me)
+  allows_take slots id k word me positive small live idle inside s kept count present _ =
       let n : ℕ = slice_index s.words (k + 3) in
       let here : k < length s.homes = omega arith in
       let slot : k ≡ (k + 3) - 3 = omega arith in
-      let P : Bool → Type 0 = λ b. (w : View) × (a : Act (Option X)) × Valid s.homes me.1 a × Rule (stepped s (k + 3) (either b 1 n) id me.1 w a) × TakenAt number entries ((k + 3) - 3) me n (w, carried_after me.1 a) in
+      let P : Bool → Type 0 = λ b. (w : View) × (a : Act (Option X)) × Valid s.homes me.1 a × Rule (stepped s (k + 3) (either b word n) id me.1 w a) × TakenAt number entries ((k + 3) - 3) me n (w, carried_after me.1 a) in
       dite (ℕ_discrete n 0)
       (λ zero_is. let home = kept.home k here zero_is in
       subst P (sym (eq-eqb n 0 zero_is)) (
         took me.0 k (entries home.value),
         takes k (Some home.value),
         home.there,
-        takes_turn s kept id me.0 present live k here zero_is idle home.value home.there home.history,
+        takes_turn s kept id me.0 present live k word positive small here zero_is idle home.value home.there home.history,
         subst (λ j. TakenAt number entries j me n (took me.0 k (entries home.value), (k, Some home.value) ∷ me.1)) slot
             ((λ _. (home.value, refl, home.numbered, tells s kept id me.0 present live k (entries home.value) home.history)), (λ ne. absurd (ne zero_is))),
       ))
@@ -134,9 +140,23 @@ module _ {X : Type 0} (number : X → ℕ) (entries : X → List Entry) where
         me.0,
         keeps,
         tt,
-        subst (λ (z : List ℕ × List View). Rule record { words = z.0; homes = s.homes; views = z.1 }) (λ i. (sym (set-get_or s.words (k + 3) 0) i, sym (set_again s.views id me.0 present) i)) kept,
+        misses s kept (k + 3) id me.0 present,
         ((λ e. absurd (ne e)), (λ _. refl)),
       ))
+
+  pub allows_mark : (slots id k : ℕ) (me : Me (Option X) View) → k < slots → Allows Rule slots id me (k + 3) (λ n. either (eqb n 1) 2 n) (WaitMarked (step slots (k + 3) 1 2 none) me)
+  allows_mark slots id k me inside s kept count present _ =
+      let n : ℕ = slice_index s.words (k + 3) in
+      let P : ℕ → Type 0 = λ m. (w : View) × (a : Act (Option X)) × Valid s.homes me.1 a × Rule (stepped s (k + 3) m id me.1 w a) × WaitMarked (step slots (k + 3) 1 2 none) me n (w, carried_after me.1 a) in
+      exchanged n 1 2 P
+      (λ held. (
+        me.0,
+        keeps,
+        tt,
+        subst (λ (views : List View). Rule record { words = set s.words (k + 3) 2; homes = s.homes; views = views }) (sym (set_again s.views id me.0 present)) (marks_turn s kept k (omega arith) held),
+        refl,
+      ))
+      (λ _. (me.0, keeps, tt, misses s kept (k + 3) id me.0 present, refl))
 
   pub allows_give : (slots id k : ℕ) (me : Me (Option X) View) (t : HeldTurn) (x : X) → me.0.live ≡ true → me.0.turn ≡ Some t → t.slot ≡ k → me.1 ≡ (k, Some x) ∷ [] → number x ≡ suc k → Extends me.0 t (entries x)
       → Allows Rule slots id me (k + 3) (λ _. 0) (TurnGiven number entries (step slots (k + 3) 0 0 none) me)

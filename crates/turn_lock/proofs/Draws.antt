@@ -68,7 +68,7 @@ module _ {X : Type 0} {number : X → ℕ} {entries : X → List Entry} where
       (λ h. let a = names h in let b = outs h in omega arith)
       (λ h none. let a = same h in let b = sum_same (told_weight h) s.views id v w there_is (told h) in let c = kept.told h (omega arith) in omega arith)
       (λ k lt. let a = beyond k in let b = turns k in omega arith)
-      (λ k lt. let a = beyond k in let b = kept.single k lt in omega arith)
+      (λ k lt. let a = beyond k in let b = kept.turn_words k lt in omega arith)
       (λ k lt zero_is. let r = kept.home k lt (sym (beyond k) ∙ zero_is) in record { value = r.value; there = r.there; numbered = r.numbered; history = history_later more (λ h. same (naming (suc k) h)) r.history })
       (each_set (IsSpentOrLive (length s.homes) (slice_index words 0) (slice_index words 2) (all_calls (set s.views id w))) s.views id w
       (there live (consistent_later (le_refl _) (le_refl _) (λ t _ h. same (naming (suc t.slot) h)) fits))

@@ -50,7 +50,6 @@ module _ {X : Type 0} {number : X → ℕ} {entries : X → List Entry} (s : Sta
   others_hold j u apart e q theirs same =
       let a : turn_weight t.slot u ≡ 1 = ap (holds_turn t.slot) theirs ∙ (ap (equals t.slot) same ∙ equals_same t.slot) in
       let b = kept.turns t.slot holding.inside in
-      let c = kept.single t.slot holding.inside in
       absurd (let m = mine_is in omega (arith, sum_two (turn_weight t.slot) s.views id j v u (λ p. apart (sym p)) there_is e))
 
   -- the new entries are calls on this turn's number, and the value's are then its whole history
@@ -99,7 +98,6 @@ module _ {X : Type 0} {number : X → ℕ} {entries : X → List Entry} (s : Sta
         exact = λ h. let a = holding.history.exact h in let b = grown (naming (suc k) h) in let c = here h in let d : sum_by h (entries x) ≡ sum_by h (t.taken ++ new) = ap (sum_by h) whole in omega (arith, sum_by-append h t.taken new);
       } in
       let full = kept.turns k inside in
-      let single = kept.single k inside in
       subst (λ (u : View). RuleHolds number entries record { words = words; homes = homes; views = set s.views id u }) (sym w_is)
       (keeps_rule s kept words homes views (λ f. f v) (λ f. f after) moves
       (length-set s.words (k + 3) 0) (length-set s.homes k (some (Some x)))
@@ -113,7 +111,7 @@ module _ {X : Type 0} {number : X → ℕ} {entries : X → List Entry} (s : Sta
       let m = mine_is in omega (arith, sum_at (turn_weight k) s.views id v there_is))
       (λ apart. let b = other (j + 3) (λ e. apart (omega arith)) in let d : turn_weight j v ≡ 0 = ap (holds_turn j) held ∙ equals_other j k (λ e. apart (sym e)) in omega arith))
       (λ j lt. dite (ℕ_discrete j k) (λ e. let b : slice_index words (j + 3) ≡ 0 = ap (λ i. slice_index words (i + 3)) e ∙ now in omega arith)
-      (λ apart. let b = other (j + 3) (λ e. apart (omega arith)) in let c = kept.single j lt in omega arith))
+      (λ apart. let b = other (j + 3) (λ e. apart (omega arith)) in let c = kept.turn_words j lt in omega arith))
       (λ j lt zero_is. dite (ℕ_discrete j k)
       (λ e. subst (IsHome number entries (slice_index words 0) (all_calls views) homes) (sym e) record { value = x; there = set_here s.homes k (some (Some x)) inside; numbered = numbered; history = history })
       (λ apart. let b = other (j + 3) (λ e. apart (omega arith)) in let q = kept.home j lt (sym b ∙ zero_is) in

@@ -7,6 +7,7 @@ pub mod Draws
 pub mod Partings
 pub mod Entries
 pub mod Taking
+pub mod Waiting
 pub mod Giving
 pub mod Allowed
 pub mod Taken

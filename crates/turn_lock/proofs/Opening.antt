@@ -8,7 +8,7 @@ use Rattle.atomic_table.specs.Table.{opening}
 use Rattle.history.specs.declared.entry.Entry.{Entry}
 use Rattle.turn_lock.specs.declared.view.HeldTurn.{HeldTurn}
 use Rattle.turn_lock.specs.declared.view.View.{View}
-use Rattle.turn_lock.specs.Weights.{sum_up_to, latest}
+use Rattle.turn_lock.specs.Weights.{sum_up_to, holders, latest}
 use Rattle.turn_lock.specs.Rule.{RuleHolds, IsSpentOrLive, there, Rising, all_calls, newcomer}
 use Rattle.turn_lock.specs.Closing.{AreBlank}
 
@@ -58,8 +58,8 @@ module _ {X : Type 0} (number : X → ℕ) (entries : X → List Entry) where
         threads = λ h. start h 2;
         names = λ h. omega arith;
         told = λ h zero_is. refl;
-        turns = λ k lt. sym (free (k + 3));
-        single = λ k lt. let a = free (k + 3) in omega arith;
+        turns = λ k lt. sym (ap holders (free (k + 3)));
+        turn_words = λ k lt. let a = free (k + 3) in omega arith;
         home = λ k lt zero_is.
             let a = at_home k vs (omega arith) in
             let b = blank k a.0 a.1 in record {

@@ -94,7 +94,7 @@ module _ {X : Type 0} {number : X → ℕ} {entries : X → List Entry} where
       (λ h none. let a = same h in let b = kept.told h (omega arith) in let m = moves (told_weight h) in
       omega (arith, sum_by-append h v.told v.calls, sum_at (told_weight h) s.views id v there_is, sum_at (call_weight h) s.views id v there_is))
       (λ k lt. let e : turn_weight k left ≡ 0 = ap (holds_turn k) idle in let d : turn_weight k v ≡ 0 = ap (holds_turn k) idle in omega arith)
-      kept.single
+      kept.turn_words
       (λ k lt zero_is. let r = kept.home k lt zero_is in record { value = r.value; there = r.there; numbered = r.numbered; history = history_later (le_refl _) (λ h. same (naming (suc k) h)) r.history })
       (λ j u e. ⊎_elim (each_set Known s.views id left kept_left (λ i x _ d. view_later (le_refl _) (le_refl _) (λ t _ h. same (naming (suc t.slot) h)) (kept.each i x d)) j u)
       (λ (t : right ≡ u). subst Known t kept_right) (at_snoc (set s.views id left) right u j e))
@@ -139,7 +139,7 @@ module _ {X : Type 0} {number : X → ℕ} {entries : X → List Entry} where
       (λ h. let a = sum_without u.name h v.outs out in let b = none_out h in let c : name_weight h u ≡ h u.name = ap (λ b. cond b (h u.name) 0) live_other in omega arith)
       (λ h none. let a = same h in let b = kept.told h (omega arith) in let m = moves (told_weight h) in omega arith)
       (λ k lt. let e : turn_weight k v ≡ 0 = ap (holds_turn k) idle in let d : turn_weight k u ≡ 0 = ap (holds_turn k) idle_other in let f : turn_weight k both ≡ 0 = ap (holds_turn k) idle in omega arith)
-      kept.single
+      kept.turn_words
       (λ k lt zero_is. let r = kept.home k lt zero_is in record { value = r.value; there = r.there; numbered = r.numbered; history = history_later (le_refl _) (λ h. same (naming (suc k) h)) r.history })
       (each_set Known (set s.views id both) other spent (gone refl)
       (λ j x _ e. each_set Known s.views id both kept_both (λ i y _ d. view_later (le_refl _) (le_refl _) (λ t _ h. same (naming (suc t.slot) h)) (kept.each i y d)) j x e))

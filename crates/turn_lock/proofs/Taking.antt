@@ -58,14 +58,15 @@ module _ {X : Type 0} {number : X → ℕ} {entries : X → List Entry} (s : Sta
         omega arith;
   }
 
-  pub takes_turn : (k : ℕ) → k < length s.homes → slice_index s.words (k + 3) ≡ 0 → v.turn ≡ None → (x : X) → get_elem? s.homes k ≡ some (some (Some x)) → IsSlotHistory (slice_index s.words 0) (all_calls s.views) k (entries x)
-      → RuleHolds number entries record { words = set s.words (k + 3) 1; homes = set s.homes k none; views = set s.views id (took v k (entries x)) }
-  takes_turn k inside free idle x home history =
-      let words : List ℕ = set s.words (k + 3) 1 in
+  -- the word is then 1, or 2 where the desk has waited
+  pub takes_turn : (k word : ℕ) → 1 ≤ word → word ≤ 2 → k < length s.homes → slice_index s.words (k + 3) ≡ 0 → v.turn ≡ None → (x : X) → get_elem? s.homes k ≡ some (some (Some x)) → IsSlotHistory (slice_index s.words 0) (all_calls s.views) k (entries x)
+      → RuleHolds number entries record { words = set s.words (k + 3) word; homes = set s.homes k none; views = set s.views id (took v k (entries x)) }
+  takes_turn k word positive small inside free idle x home history =
+      let words : List ℕ = set s.words (k + 3) word in
       let w : View = took v k (entries x) in
       let wide = kept.wide in
-      let other : (j : ℕ) → j ≢ k + 3 → slice_index words j ≡ slice_index s.words j = λ j apart. get_or-set_other s.words (k + 3) j 1 0 apart in
-      let here : slice_index words (k + 3) ≡ 1 = get_or-set_same s.words (k + 3) 1 0 (omega arith) in
+      let other : (j : ℕ) → j ≢ k + 3 → slice_index words j ≡ slice_index s.words j = λ j apart. get_or-set_other s.words (k + 3) j word 0 apart in
+      let here : slice_index words (k + 3) ≡ word = get_or-set_same s.words (k + 3) word 0 (omega arith) in
       let zero_word : slice_index words 0 ≡ slice_index s.words 0 = other 0 (λ e. omega arith) in
       let one_word : slice_index words 1 ≡ slice_index s.words 1 = other 1 (λ e. omega arith) in
       let two_word : slice_index words 2 ≡ slice_index s.words 2 = other 2 (λ e. omega arith) in
@@ -89,17 +90,17 @@ module _ {X : Type 0} {number : X → ℕ} {entries : X → List Entry} (s : Sta
         turn = λ t e. subst (IsHolding (length s.homes) (slice_index s.words 0) (all_calls s.views)) (some_hold (held_turn k (entries x)) t e) record { inside = inside; history = history; later = All-nil _; reached = All-nil _ };
       } in
       keeps_rule s kept words (set s.homes k none) (set s.views id w) (λ f. f v) (λ f. f w) (moves_set s.views id v w there_is)
-      (length-set s.words (k + 3) 1) (length-set s.homes k none)
+      (length-set s.words (k + 3) word) (length-set s.homes k none)
       (λ h. let a = ap (sum_up_to h) zero_word in omega arith) (λ h. let a = ap (sum_up_to h) one_word in omega arith) (λ h. let a = ap (sum_up_to h) two_word in omega arith)
       (λ h. omega arith)
       (λ h zero_is. let a = same h in let b = sum_same (told_weight h) s.views id v w there_is refl in let c = kept.told h (omega arith) in omega arith)
       (λ j lt. let a = held j in dite (ℕ_discrete j k)
-      (λ e. let b : slice_index words (j + 3) ≡ 1 = ap (λ i. slice_index words (i + 3)) e ∙ here in let c : slice_index s.words (j + 3) ≡ 0 = ap (λ i. slice_index s.words (i + 3)) e ∙ free in
+      (λ e. let b : slice_index words (j + 3) ≡ word = ap (λ i. slice_index words (i + 3)) e ∙ here in let c : slice_index s.words (j + 3) ≡ 0 = ap (λ i. slice_index s.words (i + 3)) e ∙ free in
       let d : turn_weight j w ≡ 1 = ap (λ i. equals i k) e ∙ equals_same k in omega arith)
       (λ apart. let b = other (j + 3) (λ e. apart (omega arith)) in let d : turn_weight j w ≡ 0 = equals_other j k (λ e. apart (sym e)) in omega arith))
-      (λ j lt. dite (ℕ_discrete j k) (λ e. let b : slice_index words (j + 3) ≡ 1 = ap (λ i. slice_index words (i + 3)) e ∙ here in omega arith)
-      (λ apart. let b = other (j + 3) (λ e. apart (omega arith)) in let c = kept.single j lt in omega arith))
-      (λ j lt zero_is. dite (ℕ_discrete j k) (λ e. let b : slice_index words (j + 3) ≡ 1 = ap (λ i. slice_index words (i + 3)) e ∙ here in absurd (omega arith))
+      (λ j lt. dite (ℕ_discrete j k) (λ e. let b : slice_index words (j + 3) ≡ word = ap (λ i. slice_index words (i + 3)) e ∙ here in omega arith)
+      (λ apart. let b = other (j + 3) (λ e. apart (omega arith)) in let c = kept.turn_words j lt in omega arith))
+      (λ j lt zero_is. dite (ℕ_discrete j k) (λ e. let b : slice_index words (j + 3) ≡ word = ap (λ i. slice_index words (i + 3)) e ∙ here in absurd (omega arith))
       (λ apart. let b = other (j + 3) (λ e. apart (omega arith)) in let q = kept.home j lt (sym b ∙ zero_is) in
       record { value = q.value; there = set_else s.homes k j none apart ∙ q.there; numbered = q.numbered; history = history_later (omega arith) (λ h. same (naming (suc j) h)) q.history }))
       (each_set Known s.views id w

@@ -39,6 +39,10 @@ module _ {X : Type 0} where
   abbrev pub NameChosen : Step (Option X) → Me (Option X) View → ℕ → Me (Option X) View → Type 0
   NameChosen st m r m' = m' ≡ (chose m.0 st.first, m.1)
 
+  -- the turn's word may change, and nothing that the desk knows or has
+  abbrev pub WaitMarked : Step (Option X) → Me (Option X) View → ℕ → Me (Option X) View → Type 0
+  WaitMarked st m r m' = m' ≡ m
+
 -- the number was drawn on this desk, or on one joined into it, and no Make was given for it
 abbrev pub IsFresh : View → ℕ → Type 0
 IsFresh v n = (1 ≤ alloc_weight (equals n) v) × (sum_by (makes n) v.calls ≡ 0)

@@ -1,5 +1,5 @@
 -- Sums over numbers and entries, by which the rule says what stands in which view, and how often: an equation for each way of weighing.
-use Rattle.std.specs.Prelude.{ℕ, zero, suc, ◌+◌, ◌≤◌, ◌==◌, nat_le, if◌then◌else◌, List, [], ◌∷◌, max, sum_by, Option, Some, None}
+use Rattle.std.specs.Prelude.{ℕ, zero, suc, ◌+◌, ◌≤◌, ◌==◌, nat_le, if◌then◌else◌, List, [], ◌∷◌, min, max, sum_by, Option, Some, None}
 use Rattle.history.specs.declared.entry.Entry.{Entry}
 use Rattle.history.specs.Histories.{is_make_step}
 use Rattle.history.specs.Restriction.{number_of}
@@ -68,6 +68,10 @@ holds_turn k (Some t) = if t.slot == k then 1 else 0
 
 abbrev pub turn_weight : ℕ → View → ℕ
 turn_weight k v = holds_turn k v.turn
+
+-- how many desks hold a turn whose word this is: none where it is 0, and else one
+abbrev pub holders : ℕ → ℕ
+holders word = min word 1
 
 -- the greatest stamp among the entries
 abbrev pub latest : List Entry → ℕ

@@ -77,6 +77,14 @@ impl<T: Logged> Play<Option<T>, View> for TakeTurn {
     ghost then = { TurnTaken T.number T.entries };
 }
 
+pub(crate) struct MarkWaited;
+
+impl<T> Play<Option<T>, View> for MarkWaited {
+    ghost use Rattle.turn_lock.specs.Plays.{WaitMarked};
+
+    ghost then = { WaitMarked };
+}
+
 pub(crate) struct GiveTurn;
 
 impl<T: Logged> Play<Option<T>, View> for GiveTurn {

@@ -6,7 +6,7 @@ ghost use Rattle.turn_lock.specs.Steps.{drew_stamp, drew_alloc, drew_thread, par
 
 use crate::desk::Desk;
 use crate::rule::{
-    Child, ChooseName, DrawAlloc, DrawStamp, DrawThread, GiveTurn, TakeTurn, TurnRule,
+    Child, ChooseName, DrawAlloc, DrawStamp, DrawThread, GiveTurn, MarkWaited, TakeTurn, TurnRule,
 };
 use crate::view::View;
 use atomic_table::{Seat, Table};
@@ -34,9 +34,21 @@ const THREADS: usize = 2;
 
 const FIRST_TURN: usize = 3;
 
+// The word of a turn. A desk that finds the turn held changes 1 to 2 and parks, which the system
+// lets it do only while the word is 2. A give exchanges the word for 0, and wakes one desk that
+// parks if the word was 2; else it makes no system call. A desk that has waited takes the turn by
+// changing 0 to 2, and not to 1, since others may still park: so its own give wakes the next one.
+// If a desk that has not waited takes the turn before the woken one, by changing 0 to 1, the woken
+// one changes 1 to 2 again, and parks until that desk gives the turn back.
+//
+// So no wake-up is lost. While a desk parks on the word, it is 2, and the next give wakes one; or a
+// give is about to wake one; or a desk that has waited is awake, which makes the word 2 before it
+// parks again or as it takes the turn.
 const FREE: u64 = 0;
 
 const HELD: u64 = 1;
+
+const WAITED: u64 = 2;
 
 /// A clock, a count of allocation numbers, a count of thread numbers, and for each allocation
 /// number a turn and a slot with its value. A contract sees which table it is, with its number of
@@ -165,20 +177,34 @@ impl<T: Logged> Turns<T> {
         shared.join_seat::<Child>(&mut desk.seat, child.into_seat());
     }
 
-    // Takes the turn and the value out of its slot, if the turn is free.
-    fn try_acquire(&self, seat: &mut Seat<Option<T>, View>, slot: usize) -> Option<T>
+    // Takes the turn and the value out of its slot, if the turn is free. The word is then `held`.
+    fn try_acquire(&self, seat: &mut Seat<Option<T>, View>, slot: usize, held: u64) -> Option<T>
         requires own { seat.old.table_id ≡ self.now }
         requires idle { (seat.old.me.0.live ≡ true) × (seat.old.me.0.turn ≡ None) × (seat.old.me.1 ≡ []) }
         requires slot { slot < self.now.slots }
+        requires held { (HELD ≤ held) × (held ≤ WAITED) }
         ensures table { seat.new.table_id ≡ seat.old.table_id }
         ensures some { IfSome result (λ x. IsTaken T.number T.entries slot seat.old.me x seat.new.me) }
         ensures none { IfNone result (seat.new.me ≡ seat.old.me) }
     {
         let shared = &self.table.shared;
-        if shared.compare_exchange::<TakeTurn>(seat, slot + FIRST_TURN, FREE, HELD) == FREE {
+        if shared.compare_exchange::<TakeTurn>(seat, slot + FIRST_TURN, FREE, held) == FREE {
             shared.exchange(seat, slot, None)
         } else {
             None
+        }
+    }
+
+    // Marks the turn as waited for and sleeps, unless it is free by now.
+    fn sleep<R: Wait>(&self, rt: &R, seat: &mut Seat<Option<T>, View>, slot: usize)
+        requires own { seat.old.table_id ≡ self.now }
+        requires slot { slot < self.now.slots }
+        ensures table { seat.new.table_id ≡ seat.old.table_id }
+        ensures me { seat.new.me ≡ seat.old.me }
+    {
+        let shared = &self.table.shared;
+        if shared.compare_exchange::<MarkWaited>(seat, slot + FIRST_TURN, HELD, WAITED) != FREE {
+            shared.park(rt, slot + FIRST_TURN, WAITED as u32);
         }
     }
 
@@ -190,11 +216,13 @@ impl<T: Logged> Turns<T> {
         ensures table { seat.new.table_id ≡ seat.old.table_id }
         ensures taken { IsTaken T.number T.entries slot seat.old.me result seat.new.me }
     {
+        let mut held = HELD;
         for _ in rt.forever() {
-            if let Some(value) = self.try_acquire(seat, slot) {
+            if let Some(value) = self.try_acquire(seat, slot, held) {
                 return value;
             }
-            self.table.shared.park(rt, slot + FIRST_TURN, HELD as u32);
+            self.sleep(rt, seat, slot);
+            held = WAITED;
         }
         unreachable!()
     }
@@ -214,10 +242,10 @@ impl<T: Logged> Turns<T> {
         self.acquire(rt, &mut desk.seat, alloc.0 as usize - 1)
     }
 
-    /// Gives the turn back with its value, and wakes one thread that waits for it. The value has the
-    /// entries that it was taken with, or one more, which names this number, is a Make only where
-    /// the number is fresh on the desk, and has a stamp that the desk drew since the take. That entry
-    /// is then one of the desk's calls.
+    /// Gives the turn back with its value, and wakes one thread that waits for it, if there is one.
+    /// The value has the entries that it was taken with, or one more, which names this number, is a
+    /// Make only where the number is fresh on the desk, and has a stamp that the desk drew since the
+    /// take. That entry is then one of the desk's calls.
     pub fn give(&self, desk: &mut Desk<T>, alloc: AllocNo, value: T)
         requires own { desk.old.table ≡ self.now }
         requires turn { (t : HeldTurn) × (desk.old.view.turn ≡ Some t) × (suc t.slot ≡ alloc.0) × Extends desk.old.view t (T.entries value) }
@@ -228,7 +256,8 @@ impl<T: Logged> Turns<T> {
         let slot = alloc.0 as usize - 1;
         let found = shared.exchange(&mut desk.seat, slot, Some(value));
         let None = found else { unreachable!() };
-        shared.swap::<GiveTurn>(&mut desk.seat, slot + FIRST_TURN, FREE);
-        shared.wake_one(slot + FIRST_TURN);
+        if shared.swap::<GiveTurn>(&mut desk.seat, slot + FIRST_TURN, FREE) == WAITED {
+            shared.wake_one(slot + FIRST_TURN);
+        }
     }
 }

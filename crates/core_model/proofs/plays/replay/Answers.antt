@@ -20,7 +20,7 @@ play_schedule-requires g c =
     let none : c.new-2.result.items ≡ [] = search rules in (
       x,
       first_progress (source x) objects (main_of x.program) (main_start x),
-      starts g.T.Thread.setting g.T.Thread.state c.args.limits.now c.args.hosts.now.table f c.requires.runnable c.push.new.self.items c.new-3.result items refl c.requires.function c.requires.start none refl c.new-3.ensures,
+      starts g.T.Thread.setting g.T.Thread.state c.args.limits.now c.args.hosts.now.table f c.requires.main.runnable c.requires.limits c.push.new.self.items c.new-3.result items refl c.requires.main.function_is c.requires.main.state_is none refl c.new-3.ensures,
     )
 
 pub play_rest-requires : goal.play_rest-requires
@@ -29,7 +29,7 @@ play_rest-requires g c =
     let f = main_fiber c.args.function c.args.main c.new-2.result in
     let items : c.push.new.self.items ≡ f ∷ [] = search rules in
     let none : c.new-2.result.items ≡ [] = search rules in
-    let way = starts g.T.Thread.setting g.T.Thread.state c.args.limits.now c.args.hosts.now.table f c.requires.runnable c.push.new.self.items c.new-3.result items refl c.requires.function c.requires.start none refl c.new-3.ensures in
+    let way = starts g.T.Thread.setting g.T.Thread.state c.args.limits.now c.args.hosts.now.table f c.requires.main.runnable c.requires.limits c.push.new.self.items c.new-3.result items refl c.requires.main.function_is c.requires.main.state_is none refl c.new-3.ensures in
     let a = c.play_schedule.ensures x (first_progress (source x) objects (main_of x.program) (main_start x)) way in
     (x, a.0, a.2)
 
@@ -39,7 +39,7 @@ record_of-requires g c =
     let f = main_fiber c.args.function c.args.main c.new-2.result in
     let items : c.push.new.self.items ≡ f ∷ [] = search rules in
     let none : c.new-2.result.items ≡ [] = search rules in
-    let way = starts g.T.Thread.setting g.T.Thread.state c.args.limits.now c.args.hosts.now.table f c.requires.runnable c.push.new.self.items c.new-3.result items refl c.requires.function c.requires.start none refl c.new-3.ensures in
+    let way = starts g.T.Thread.setting g.T.Thread.state c.args.limits.now c.args.hosts.now.table f c.requires.main.runnable c.requires.limits c.push.new.self.items c.new-3.result items refl c.requires.main.function_is c.requires.main.state_is none refl c.new-3.ensures in
     let a = c.play_schedule.ensures x (first_progress (source x) objects (main_of x.program) (main_start x)) way in
     let b = c.play_rest.ensures x a.0 a.2 in
     let few = few_threads c.args.limits.now c.args.hosts.now.table (all_seen g.T.Thread.setting g.T.Thread.state c.play_rest.new.run.fibers.items) c.play_rest.new.run.memory (x, b.0, b.4) in
@@ -52,9 +52,9 @@ returns-clause-ok g c =
     let f = main_fiber c.args.function c.args.main c.new-2.result in
     let items : c.push.new.self.items ≡ f ∷ [] = search rules in
     let none : c.new-2.result.items ≡ [] = search rules in
-    let way = starts g.T.Thread.setting g.T.Thread.state c.args.limits.now c.args.hosts.now.table f c.requires.runnable c.push.new.self.items c.new-3.result items refl c.requires.function c.requires.start none refl c.new-3.ensures in
+    let way = starts g.T.Thread.setting g.T.Thread.state c.args.limits.now c.args.hosts.now.table f c.requires.main.runnable c.requires.limits c.push.new.self.items c.new-3.result items refl c.requires.main.function_is c.requires.main.state_is none refl c.new-3.ensures in
     let ts = map (λ (n : ThreadNo). n.0) c.args.schedule.now in
     subst (λ (k : RunRecord). Replayed x.program x.input c.args.hosts.now.table c.args.limits.now ts k) (sym c.in_ok-kept.ensures)
-    (replayed x c.args.limits.now c.args.hosts.now.table c.requires.runnable ts (all_seen g.T.Thread.setting g.T.Thread.state c.push.new.self.items)
+    (replayed x c.args.limits.now c.args.hosts.now.table c.requires.main.runnable c.requires.limits ts (all_seen g.T.Thread.setting g.T.Thread.state c.push.new.self.items)
     (all_seen g.T.Thread.setting g.T.Thread.state c.play_schedule.new.run.fibers.items) (all_seen g.T.Thread.setting g.T.Thread.state c.play_rest.new.run.fibers.items)
     c.new-3.result c.play_schedule.new.run.memory c.play_rest.new.run.memory way c.play_schedule.ensures c.play_rest.ensures)

@@ -1,5 +1,5 @@
 use Rattle.std.proofs.Common.{◌≡◌, ◌∙◌, ap, refl, subst, sym, length}
-use Rattle.interp.specs.Wholes.{AreLegal}
+use Rattle.run_memory.specs.States.{AreLegal}
 use Rattle.turn_lock.specs.Plays.{DeskView}
 use Rattle.interp.proofs.Mains.{main_first}
 use Rattle.interp.proofs.Wholes.{main_answers, run_is_right}
@@ -17,4 +17,4 @@ returns g c =
     let ok = c.in_ok-words.states.ok in
     let many : length c.in_ok-words.states.items ≡ c.args.limits.now.allocs = sym ok.0 ∙ (c.in_ok-words.ensures.numbers ∙ ap (λ l. l.allocs) c.in_ok-space.ensures.limits) in
     run_is_right x.program x.input hosts c.args.limits.now c.in_ok-space.desk _ _ c.in_ok-words.words c.in_ok-words.states.items answer (ap (λ (d : DeskView). d.view.seen) c.in_ok-space.ensures.desk)
-    c.in_ok-words.ensures.counts many c.in_ok-words.ensures.states (subst AreLegal c.in_ok-alloc_logs.ensures.logs c.in_ok-alloc_logs.ensures.legal) _ c.in_ok-alloc_logs.ensures.logs refl c.in_ok-ordered_logs.ensures.same c.in_ok-ordered_logs.ensures.ordered
+    c.in_ok-words.ensures.counts many c.in_ok-words.ensures.states (subst AreLegal c.in_ok-logs_of.ensures.logs c.in_ok-logs_of.ensures.legal) _ c.in_ok-logs_of.ensures.logs refl c.in_ok-ordered_logs.ensures.same c.in_ok-ordered_logs.ensures.ordered

@@ -7,7 +7,7 @@ pub compare_exchange-requires : goal.compare_exchange-requires
 compare_exchange-requires g c = (
   search rules,
   search rules,
-  allows_take g.T.Logged.number g.T.Logged.entries _ _ c.args.slot c.args.seat.now.me c.requires.idle.0 c.requires.idle.1 (search rules),
+  allows_take g.T.Logged.number g.T.Logged.entries _ _ c.args.slot c.args.held c.args.seat.now.me c.requires.held.0 c.requires.held.1 c.requires.idle.0 c.requires.idle.1 (search rules),
 )
 
 pub exchange-requires : goal.exchange-requires

@@ -1,6 +1,6 @@
 use Rattle.std.proofs.Common.{◌-◌}
-use Rattle.core_model.specs.Turns.{HasTurned}
-use Rattle.core_model.proofs.settle.settle.Given as goal
+use Rattle.instr_sound.specs.Settling.{HasTurned}
+use Rattle.instr_sound.proofs.settling.settle.Given as goal
 
 abbrev pub invariant-loop-thread : goal.invariant-loop-thread
 invariant-loop-thread g l =

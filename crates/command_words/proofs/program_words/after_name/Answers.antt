@@ -1,6 +1,6 @@
 use Rattle.std.proofs.Common.{◌∙◌}
-use Rattle.bsan_main.proofs.RestLemmas.{after_next, drained}
-use Rattle.bsan_main.proofs.after_name.Goals as goal
+use Rattle.command_words.proofs.RestLemmas.{after_next, drained}
+use Rattle.command_words.proofs.program_words.after_name.Goals as goal
 
 pub returns : goal.returns
 returns c =

@@ -6,8 +6,8 @@ use Rattle.runs.proofs.Feeding.{settles_one_more}
 use Rattle.source_sem.specs.Source.{Setting, Source, source, source_ask, source_turn}
 use Rattle.source_sem.proofs.Fresh.{turns_are_fresh}
 use Rattle.source_sem.proofs.Stepping.{instructions_count}
-use Rattle.core_model.proofs.settle.settle.Goals as goal
-use Rattle.core_model.proofs.settle.settle.Goals.{else-begins-via-then-begins+else-instructions-turns, else-begins-via-else-begins}
+use Rattle.instr_sound.proofs.settling.settle.Goals as goal
+use Rattle.instr_sound.proofs.settling.settle.Goals.{else-begins-via-then-begins+else-instructions-turns, else-begins-via-else-begins}
 
 pub loop-thread-preserved : goal.loop-thread-preserved
 loop-thread-preserved g c =

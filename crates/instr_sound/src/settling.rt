@@ -1,17 +1,23 @@
-//! A thread's local turns, and whether it has ended after a step.
+//! A thread's local turns, and the end that its own instructions bring.
 ghost use Rattle.std.specs.Prelude.{◌≡◌, ◌≢◌, ◌≤◌, IfOk, IfErr};
-ghost use Rattle.core_model.specs.Ends.{machine_end};
-ghost use Rattle.core_model.specs.Turns.{IsHalt, Rests};
 ghost use Rattle.history.specs.declared.ask.Ask.TheVariants as ask;
 ghost use Rattle.runs.specs.Machine.{SettlesWithin, MayGoOn};
 ghost use Rattle.source_sem.specs.Source.{source, source_ask};
+ghost use Rattle.instr_sound.specs.Settling.{IsHalt, machine_end};
 
-use bsan_ids::{Limits, NoMemory};
+use crate::thread::Thread;
+use bsan_ids::NoMemory;
 use history::{Ask, End, MachineEnd};
-use instr_sound::Thread;
 
-/// Makes the local turns until the thread asks for a step or ends, and answers what it asks; or how it ends before that.
-pub(crate) fn settle<T: Thread>(thread: &mut T, turns: u64) -> Result<Ask, End>
+/// Makes the local turns until the thread asks for a step or ends, and answers what it asks.
+///
+/// # Errors
+///
+/// How the thread ends before that.
+///
+/// - `TurnLimit`: an instruction would begin, and `turns` were done.
+/// - `NoMemory`: out of memory.
+pub fn settle<T: Thread>(thread: &mut T, turns: u64) -> Result<Ask, End>
     requires { (T.state thread.old).count ≤ turns }
     ensures setting { T.setting thread.new ≡ T.setting thread.old }
     ensures turned { SettlesWithin (source (T.setting thread.old)) turns (T.state thread.old) (T.state thread.new) }
@@ -41,26 +47,12 @@ pub(crate) fn settle<T: Thread>(thread: &mut T, turns: u64) -> Result<Ask, End>
     }
 }
 
-/// The end that a thread's own instructions bring.
-pub(crate) fn end_by(end: MachineEnd) -> End
+/// The end that a thread's own instructions bring, as its log tells it.
+pub fn end_by(end: MachineEnd) -> End
     ensures { result ≡ machine_end end }
 {
     match end {
         MachineEnd::Returned { value, carried } => End::Returned { value, carried },
         MachineEnd::Trapped(trap) => End::Trapped(trap),
-    }
-}
-
-/// How the thread has ended after a step, if its state is an end.
-pub(crate) fn end_here<T: Thread>(thread: &T, limits: &Limits) -> Option<End>
-    ensures { Rests (T.setting thread.now) limits.now (T.state thread.now) result }
-{
-    if thread.begins() && thread.instructions() == limits.turns {
-        return Some(End::TurnLimit);
-    }
-    match thread.ask() {
-        Ok(Ask::Ended(end)) => Some(end_by(end)),
-        Ok(_) => None,
-        Err(NoMemory) => Some(End::NoMemory),
     }
 }
