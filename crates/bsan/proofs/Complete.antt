@@ -16,23 +16,30 @@ use Rattle.ir_rules.specs.declared.rule.Rule.{Rule}
 use Rattle.ir_rules.specs.Least.{fault}
 use Rattle.ir_rules.specs.Rules.{IsAccepted, IsFirstBroken}
 use Rattle.history.specs.declared.record.RunRecord.{RunRecord}
+use Rattle.suppress.specs.Files.{lines_of}
+use Rattle.suppress.specs.declared.line.Reading.TheVariants as reading
+use Rattle.suppress.specs.declared.rules.Rules.{Rules}
+use Rattle.suppress.proofs.Refusing.{no_rules}
 use Rattle.source_sem.specs.Records.{IsRightRecord}
-use Rattle.bsan.specs.Words.{Text, Origin, origin_of, IsFrom}
+use Rattle.bsan.specs.Words.{Text, Origin, origin_of, rules_in, IsFrom}
 use Rattle.bsan.specs.Words.Origin.{InFile, Generated}
 use Rattle.bsan.specs.Seen.{FilesSeen, SinkSeen, Failed, WasTooLong, WasRead, IsFault, Puts}
 use Rattle.bsan.specs.Seen.Puts.{whole, failed, no_memory}
 use Rattle.bsan.specs.Runs.{IsInput, IsScheduledRun, IsNativeRun}
+use Rattle.bsan.specs.Rules.{AreRulesIn, IsRefusedAt, OfRead}
 use Rattle.bsan.specs.Answer.{OfFile, OfText, OfProgram, OfJob, HasProgram, Serves, FindsIn, HasCause, Answers, text_for, status_for}
-use Rattle.bsan.specs.Causes.{IsCutShort, IsUnread, ComesBetween, IsRefused, IsBroken, TellsText, IsGiven, IsGivenInput, HasInput, IsServed, IsComplete}
+use Rattle.bsan.specs.Causes.{IsCutShort, IsUnread, ComesBetween, IsRefused, IsBroken, TellsText, IsGiven, IsGivenInput, HasInput, AreRulesGiven, HasRules, IsServed, IsComplete}
 use Rattle.bsan.proofs.Found.{of_origin}
+use Rattle.bsan.specs.declared.outcome.LineFault.{LineFault}
+use Rattle.bsan.specs.declared.outcome.LineFault.TheVariants.{BadLine, NoFunction}
 use Rattle.bsan.specs.declared.outcome.Role.TheVariants as role
 use Rattle.bsan.specs.declared.outcome.Outcome.{Outcome}
-use Rattle.bsan.specs.declared.outcome.Outcome.TheVariants.{Usage, FileFault, TooLong, NotRead, NotVerified, Accepted, Instrumented, Ran, Loaded, Raced, Traced}
+use Rattle.bsan.specs.declared.outcome.Outcome.TheVariants.{Usage, FileFault, TooLong, NotRead, NotVerified, RulesRefused, Accepted, Instrumented, Ran, Loaded, Hushed, Raced, Traced}
 
-same_job : (asked : Option Job) (job other : Job) → asked ≡ Some job → asked ≡ Some other → job ≡ other
+pub same_job : (asked : Option Job) (job other : Job) → asked ≡ Some job → asked ≡ Some other → job ≡ other
 same_job asked job other is also = let same : Some job ≡ Some other = sym is ∙ also in cc
 
-told_bytes : (content : Option (List ℕ)) (bytes text : List ℕ) → Tells content bytes → content ≡ Some text → bytes ≡ text
+pub told_bytes : (content : Option (List ℕ)) (bytes text : List ℕ) → Tells content bytes → content ≡ Some text → bytes ≡ text
 told_bytes None bytes text tells is = absurd cc
 told_bytes (Some content) bytes text tells is = let same : content ≡ text = cc in tells ∙ same
 
@@ -64,7 +71,7 @@ in_told files asked P job text is content of =
     (subst (λ (j : Job). HasProgram (λ file t. WasRead files file most_bytes t) (origin_of j) of.program) (same_job asked of.job job of.is is) of.has) content
 
 -- a text has one program
-of_one : (text : List ℕ) (P : Program → Type 0) (program : Program) → IsProgramOf text program → OfProgram P text → P program
+pub of_one : (text : List ℕ) (P : Program → Type 0) (program : Program) → IsProgramOf text program → OfProgram P text → P program
 of_one text P program reads of = subst P (one_program text of.program program of.reads reads) of.holds
 
 -- a text that is refused has none
@@ -72,7 +79,7 @@ of_none : (text : List ℕ) (P : Program → Type 0) (read_fault : ReadFault) �
 of_none text P read_fault refused of = not_both text of.program read_fault of.reads refused
 
 -- in an accepted program no rule is broken
-unbroken : (program : Program) (hosts : HostTable) (rule : Rule) (at : ℕ) → IsAccepted program hosts → IsFirstBroken program hosts (fault rule at) → ⊥
+pub unbroken : (program : Program) (hosts : HostTable) (rule : Rule) (at : ℕ) → IsAccepted program hosts → IsFirstBroken program hosts (fault rule at) → ⊥
 unbroken program hosts rule at accepted first = accepted rule at first.0
 
 -- a text that fits is not longer than the limit
@@ -95,7 +102,7 @@ given_text files (InFile file) program text gives read =
     subst (λ (t : List ℕ). IsProgramOf t program) (sym (told_bytes (files.content file) text gives.0 read.told gives.1.content)) gives.2
 given_text files (Generated run) program text gives read = absurd read
 
-not_unread : (files : FilesSeen) (file : Text) (bytes : List ℕ) → IsGiven files file bytes → IsFault files file → ⊥
+pub not_unread : (files : FilesSeen) (file : Text) (bytes : List ℕ) → IsGiven files file bytes → IsFault files file → ⊥
 not_unread files file bytes given (inl fault) = given.no_fault fault
 not_unread files file bytes given (inr long) = not_longer most_bytes (files.content file) bytes long.longer given.content given.within
 
@@ -114,24 +121,48 @@ same_input : (files : FilesSeen) (file : Option Text) (read given : List ℕ) �
 same_input files None read given is also = is ∙ sym also
 same_input files (Some name) read given is also = told_bytes (files.content name) read given is.told also.content
 
+-- ---- rules
+-- a text of rules has no line that is refused
+pub taken_or_refused : (program : Program) (text : List ℕ) (rules : Rules) (why : LineFault) (line : ℕ) → AreRulesIn program text rules
+    → IsRefusedAt program text why line → ⊥
+taken_or_refused program text rules BadLine line are at = no_rules program.functions (lines_of text) line reading.Bad rules.list tt at are
+taken_or_refused program text rules NoFunction line are at = no_rules program.functions (lines_of text) line reading.NoFunction rules.list tt at are
+
+-- what holds of the text that was read of a file holds of the one that is told
+pub read_is_told : (files : FilesSeen) (file : Text) (text : List ℕ) (P : List ℕ → Type 0) → files.content file ≡ Some text → OfRead files file P → P text
+read_is_told files file text P is of = subst P (told_bytes (files.content file) of.0 text of.1.told is) of.2
+
+-- the rules that are given were read, and taken
+rules_were_read : (files : FilesSeen) (program : Program) (file : Option Text) (P : Text → Type 0) → ((name : Text) → P name → IsFault files name)
+    → IfSome file (λ name. AreRulesGiven files program name) → IsSomeAnd file P → ⊥
+rules_were_read files program None P fault given of = of
+rules_were_read files program (Some name) P fault given of = not_unread files name given.0 given.1 (fault name of)
+
+rules_were_taken : (files : FilesSeen) (program : Program) (file : Option Text) (why : LineFault) (line : ℕ)
+    → IfSome file (λ name. AreRulesGiven files program name) → IsSomeAnd file (λ name. OfRead files name (λ text. IsRefusedAt program text why line)) → ⊥
+rules_were_taken files program None why line given of = of
+rules_were_taken files program (Some name) why line given of =
+    taken_or_refused program given.0 given.2 why line given.3
+    (read_is_told files name given.0 (λ text. IsRefusedAt program text why line) given.1.content of)
+
 -- one put answers the status, unless it is cut short
-put_answer : (sink : SinkSeen) (text : List ℕ) (status answer : ℕ) → Puts sink text status answer → (answer ≡ status) ⊎ IsCutShort answer
+pub put_answer : (sink : SinkSeen) (text : List ℕ) (status answer : ℕ) → Puts sink text status answer → (answer ≡ status) ⊎ IsCutShort answer
 put_answer sink text status answer (whole is appends) = inl is
 put_answer sink text status answer (failed is rose prefix) = inr (inl is)
 put_answer sink text status answer (no_memory is keeps) = inr (inr is)
 
 -- the answer after one put, or after the program's file was not read
-one_put : (files : FilesSeen) (sink : SinkSeen) (asked : Option Job) (text : List ℕ) (status answer : ℕ) → Puts sink text status answer
+pub one_put : (files : FilesSeen) (sink : SinkSeen) (asked : Option Job) (text : List ℕ) (status answer : ℕ) → Puts sink text status answer
     → (answer ≡ status) ⊎ ComesBetween files asked answer
 one_put files sink asked text status answer puts =
     elim (put_answer sink text status answer puts) [ inl is ↦ inl is | inr cut ↦ inr (inr cut) ]
 
-file_fault : (files : FilesSeen) (sink : SinkSeen) (asked : Option Job) (text : List ℕ) (status answer : ℕ) → IsUnread files asked → Puts sink text 7 answer
+pub file_fault : (files : FilesSeen) (sink : SinkSeen) (asked : Option Job) (text : List ℕ) (status answer : ℕ) → IsUnread files asked → Puts sink text 7 answer
     → (answer ≡ status) ⊎ ComesBetween files asked answer
 file_fault files sink asked text status answer unread puts =
     elim (put_answer sink text 7 answer puts) [ inl is ↦ inr (inl (is, unread)) | inr cut ↦ inr (inr cut) ]
 
-unread_by : (files : FilesSeen) (asked : Option Job) (P : Text → Type 0) → ((file : Text) → P file → IsFault files file) → OfFile asked P → IsUnread files asked
+pub unread_by : (files : FilesSeen) (asked : Option Job) (P : Text → Type 0) → ((file : Text) → P file → IsFault files file) → OfFile asked P → IsUnread files asked
 unread_by files asked P fault of =
     record { job = of.job; is = of.is; holds = of_origin P (λ file. IsFault files file) (origin_of of.job) fault of.holds }
 
@@ -151,18 +182,22 @@ refused files hosts sink asked kept answer (inl told) tells = by_found told.foun
     by_found Usage cause puts = absurd (let same : None ≡ Some tells.job = sym cause.0 ∙ tells.is in cc)
     by_found (FileFault role.Program) cause puts =
         file_fault files sink asked _ 3 answer (unread_by files asked (λ file. Failed files file) (λ file is. inl is) cause.0) puts
+    by_found (FileFault role.Rules) cause puts = absurd (unless (FileFault role.Rules) cause)
     by_found (FileFault role.Input) cause puts = absurd (unless (FileFault role.Input) cause)
     by_found (TooLong role.Program) cause puts =
         file_fault files sink asked _ 3 answer (unread_by files asked (λ file. WasTooLong files file most_bytes) (λ file is. inr is) cause.0) puts
+    by_found (TooLong role.Rules) cause puts = absurd (unless (TooLong role.Rules) cause)
     by_found (TooLong role.Input) cause puts = absurd (unless (TooLong role.Input) cause)
     by_found (NotRead read_fault) cause puts = one_put files sink asked _ 3 answer puts
     by_found (NotVerified rule at) cause puts =
         absurd (of_none tells.text (λ program. IsFirstBroken program hosts (fault rule at)) tells.holds.0 tells.holds.1
         (of_told files asked (OfProgram (λ program. IsFirstBroken program hosts (fault rule at))) tells.job tells.text tells.is tells.content cause.0))
+    by_found (RulesRefused why line) cause puts = absurd (unless (RulesRefused why line) cause)
     by_found (Accepted functions instructions) cause puts = absurd (unless (Accepted functions instructions) cause)
     by_found (Instrumented target) cause puts = absurd (unless (Instrumented target) cause)
     by_found Ran cause puts = absurd (unless Ran cause)
     by_found (Loaded seed size) cause puts = absurd (unless (Loaded seed size) cause)
+    by_found (Hushed rules) cause puts = absurd (unless (Hushed rules) cause)
     by_found (Raced races) cause puts = absurd (unless (Raced races) cause)
     by_found (Traced violations) cause puts = absurd (unless (Traced violations) cause)
 
@@ -186,18 +221,22 @@ broken files hosts sink asked kept answer (inl told) tells = by_found told.found
     by_found Usage cause puts = absurd (let same : None ≡ Some tells.job = sym cause.0 ∙ tells.is in cc)
     by_found (FileFault role.Program) cause puts =
         file_fault files sink asked _ 4 answer (unread_by files asked (λ file. Failed files file) (λ file is. inl is) cause.0) puts
+    by_found (FileFault role.Rules) cause puts = absurd (unless (FileFault role.Rules) cause cause.holds.0)
     by_found (FileFault role.Input) cause puts = absurd (unless (FileFault role.Input) cause cause.holds.0)
     by_found (TooLong role.Program) cause puts =
         file_fault files sink asked _ 4 answer (unread_by files asked (λ file. WasTooLong files file most_bytes) (λ file is. inr is) cause.0) puts
+    by_found (TooLong role.Rules) cause puts = absurd (unless (TooLong role.Rules) cause cause.holds.0)
     by_found (TooLong role.Input) cause puts = absurd (unless (TooLong role.Input) cause cause.holds.0)
     by_found (NotRead read_fault) cause puts =
         absurd (of_none tells.text (IsBroken hosts) read_fault
         (of_told files asked (λ text. Refuses text read_fault) tells.job tells.text tells.is tells.content cause.0) tells.holds)
     by_found (NotVerified rule at) cause puts = one_put files sink asked _ 4 answer puts
+    by_found (RulesRefused why line) cause puts = absurd (unless (RulesRefused why line) cause cause.holds.0)
     by_found (Accepted functions instructions) cause puts = absurd (unless (Accepted functions instructions) cause cause.holds.0)
     by_found (Instrumented target) cause puts = absurd (unless (Instrumented target) cause cause.holds.0)
     by_found Ran cause puts = absurd (unless Ran cause cause.holds.0)
     by_found (Loaded seed size) cause puts = absurd (unless (Loaded seed size) cause cause.holds.0)
+    by_found (Hushed rules) cause puts = absurd (unless (Hushed rules) cause cause.holds.0)
     by_found (Raced races) cause puts = absurd (unless (Raced races) cause cause.holds.0)
     by_found (Traced violations) cause puts = absurd (unless (Traced violations) cause cause.holds.0)
 
@@ -250,30 +289,36 @@ complete files hosts sink asked kept answer (inl told) job program input well = 
         → Appends sink.taken_before sink.taken_after (text_for other kept)
     told_text found other same appends = subst (λ (f : Outcome). Appends sink.taken_before sink.taken_after (text_for f kept)) same appends
 
-    by_job : (found : Outcome) (job : Job) → HasInput files input job → Serves files hosts kept found program job → answer ≡ status_for found kept
-        → Appends sink.taken_before sink.taken_after (text_for found kept) → IsServed hosts sink kept program input answer job
-    by_job found (Check file) has serves is appends =
+    by_job : (found : Outcome) (job : Job) → HasInput files input job → HasRules files program job → Serves files hosts kept found program job → answer ≡ status_for found kept
+        → Appends sink.taken_before sink.taken_after (text_for found kept) → IsServed files hosts sink kept program input answer job
+    by_job found (Check file) has given serves is appends =
         record { status = told_status found _ serves.0 is; text = told_text found _ serves.0 appends }
-    by_job found (Instrument file) has serves is appends =
+    by_job found (Instrument file) has given serves is appends =
         record { status = told_status found _ serves.0 is; text = told_text found _ serves.0 appends }
-    by_job found (Replay run) has serves is appends =
+    by_job found (Replay run) has given serves is appends =
         record { right = replayed run has serves.1; status = told_status found Ran serves.0 is; text = told_text found Ran serves.0 appends }
-    by_job found (Run run) has serves is appends =
+    by_job found (Run run) has given serves is appends =
         record { right = right run.settings has serves.1; status = told_status found Ran serves.0 is; text = told_text found Ran serves.0 appends }
-    by_job found (Load run) has serves is appends = record {
+    by_job found (Load run) has given serves is appends = record {
       right = subst (λ (bytes : List ℕ). IsRightRecord program bytes hosts default_settings.limits kept) has (right default_settings has serves.1);
       status = told_status found (Loaded run.seed run.size) serves.0 is;
       text = told_text found (Loaded run.seed run.size) serves.0 appends;
     }
-    by_job found (Races run) has serves is appends = record {
+    by_job found (Races run) has given serves is appends = record {
       right = replayed run has serves.0;
       races = serves.1.0;
       first = serves.1.2;
       status = told_status found (Raced serves.1.0) serves.1.1 is;
       text = told_text found (Raced serves.1.0) serves.1.1 appends;
     }
-    by_job found (Hush run) has serves is appends = absurd serves
-    by_job found (Explain run) has serves is appends = record {
+    by_job found (Hush run) has given serves is appends = record {
+      right = right run.settings has serves.0;
+      rules = serves.1.0;
+      are = (given.0, given.1.content, read_is_told files run.rules given.0 (λ text. AreRulesIn program text serves.1.0) given.1.content serves.1.2);
+      status = told_status found (Hushed serves.1.0) serves.1.1 is;
+      text = told_text found (Hushed serves.1.0) serves.1.1 appends;
+    }
+    by_job found (Explain run) has given serves is appends = record {
       right = replayed run has serves.0;
       violations = serves.1.0;
       explained = serves.1.2;
@@ -282,18 +327,22 @@ complete files hosts sink asked kept answer (inl told) job program input well = 
     }
 
     by_puts : (found : Outcome) → Serves files hosts kept found program job → Puts sink (text_for found kept) (status_for found kept) answer
-        → IsServed hosts sink kept program input answer job ⊎ (answer ≡ 9)
-    by_puts found serves (whole is appends) = inl (by_job found job well.has_input serves is appends)
+        → IsServed files hosts sink kept program input answer job ⊎ (answer ≡ 9)
+    by_puts found serves (whole is appends) = inl (by_job found job well.has_input well.has_rules serves is appends)
     by_puts found serves (failed is rose prefix) = absurd (well.no_put_fault rose)
     by_puts found serves (no_memory is keeps) = inr is
 
     by_found : (found : Outcome) → HasCause files hosts asked kept found → Puts sink (text_for found kept) (status_for found kept) answer
-        → IsServed hosts sink kept program input answer job ⊎ (answer ≡ 9)
+        → IsServed files hosts sink kept program input answer job ⊎ (answer ≡ 9)
     by_found Usage cause puts = absurd (let same : None ≡ Some job = sym cause.0 ∙ well.is in cc)
     by_found (FileFault role.Program) cause puts = absurd (was_read (λ file. Failed files file) (λ file is. inl is) cause.0)
+    by_found (FileFault role.Rules) cause puts =
+        absurd (rules_were_read files program (rules_in job) (λ file. Failed files file) (λ file is. inl is) well.has_rules (in_program (FileFault role.Rules) cause).1)
     by_found (FileFault role.Input) cause puts =
         absurd (input_was_read (λ file. Failed files file) (λ file is. inl is) (settings_in job) well.has_input (in_program (FileFault role.Input) cause).1)
     by_found (TooLong role.Program) cause puts = absurd (was_read (λ file. WasTooLong files file most_bytes) (λ file is. inr is) cause.0)
+    by_found (TooLong role.Rules) cause puts =
+        absurd (rules_were_read files program (rules_in job) (λ file. WasTooLong files file most_bytes) (λ file is. inr is) well.has_rules (in_program (TooLong role.Rules) cause).1)
     by_found (TooLong role.Input) cause puts =
         absurd (input_was_read (λ file. WasTooLong files file most_bytes) (λ file is. inr is) (settings_in job) well.has_input (in_program (TooLong role.Input) cause).1)
     by_found (NotRead read_fault) cause puts =
@@ -302,10 +351,13 @@ complete files hosts sink asked kept answer (inl told) job program input well = 
         absurd (unbroken program hosts rule at well.accepted
         (of_one cause.0.text (λ p. IsFirstBroken p hosts (fault rule at)) program
         (text_read (OfProgram (λ p. IsFirstBroken p hosts (fault rule at))) cause.0) cause.0.holds))
+    by_found (RulesRefused why line) cause puts =
+        absurd (rules_were_taken files program (rules_in job) why line well.has_rules (in_program (RulesRefused why line) cause).1)
     by_found (Accepted functions instructions) cause puts =
         by_puts (Accepted functions instructions) (in_program (Accepted functions instructions) cause).1 puts
     by_found (Instrumented target) cause puts = by_puts (Instrumented target) (in_program (Instrumented target) cause).1 puts
     by_found Ran cause puts = by_puts Ran (in_program Ran cause).1 puts
     by_found (Loaded seed size) cause puts = by_puts (Loaded seed size) (in_program (Loaded seed size) cause).1 puts
+    by_found (Hushed rules) cause puts = by_puts (Hushed rules) (in_program (Hushed rules) cause).1 puts
     by_found (Raced races) cause puts = by_puts (Raced races) (in_program (Raced races) cause).1 puts
     by_found (Traced violations) cause puts = by_puts (Traced violations) (in_program (Traced violations) cause).1 puts

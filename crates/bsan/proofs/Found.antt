@@ -1,5 +1,5 @@
 -- What is found in a text that is no program's, in a file without a program, and in one with it.
-use Rattle.std.proofs.Common.{◌≡◌, ◌≢◌, ◌≤◌, List, ℕ, Option, Some, None, Result, Ok, Err, MatchResult, refl, sym, ap, subst, ◌∙◌, arith}
+use Rattle.std.proofs.Common.{◌≡◌, ◌≢◌, ◌≤◌, List, ℕ, Option, Some, None, IfSome, Result, Ok, Err, MatchResult, refl, sym, ap, subst, ◌∙◌, arith}
 use Rattle.std.specs.Option.{option_map, IsSomeAnd}
 use Rattle.bsan_ids.specs.declared.numbers.NoMemory.{NoMemory}
 use Rattle.command_words.specs.Jobs.{Job, Settings, ScheduledRun, default_settings, native_in, on_one_thread}
@@ -17,14 +17,16 @@ use Rattle.ir_reader.specs.declared.fault.ReadFault.{ReadFault}
 use Rattle.ir_reader.specs.declared.fault.ReadFault.TheVariants as read_fault
 use Rattle.history.specs.Records.{empty_record}
 use Rattle.history.specs.declared.record.RunRecord.{RunRecord}
-use Rattle.bsan.specs.Words.{Text, Origin, origin_of, input_in, IsFrom, HasLimits, HasSize}
+use Rattle.bsan.specs.Words.{Text, Origin, origin_of, input_in, rules_in, IsFrom, HasLimits, HasSize}
 use Rattle.bsan.specs.Words.Origin.{InFile, Generated}
 use Rattle.bsan.specs.Seen.{FilesSeen, Failed, WasTooLong, WasRead}
 use Rattle.bsan.specs.Runs.{IsInput, IsScheduledRun, IsNativeRun}
-use Rattle.bsan.specs.Answer.{OfJob, HasProgram, Serves, FindsIn, HasCause, IsAskedJob, IsNoProgram, IsLoaded, IsUnloaded}
+use Rattle.bsan.specs.Rules.{AreRulesIn, IsRefusedAt, OfRead}
+use Rattle.bsan.specs.Answer.{OfJob, HasProgram, Serves, FindsIn, HasCause, HasReadRules, IsAskedJob, IsNoProgram, IsLoaded, IsUnloaded}
+use Rattle.suppress.specs.declared.rules.Rules.{Rules}
 use Rattle.bsan.specs.declared.outcome.Role.TheVariants as role
 use Rattle.bsan.specs.declared.outcome.Outcome.{Outcome}
-use Rattle.bsan.specs.declared.outcome.Outcome.TheVariants.{Usage, FileFault, TooLong, NotRead, NotVerified, Accepted, Instrumented, Ran, Loaded, Raced, Traced}
+use Rattle.bsan.specs.declared.outcome.Outcome.TheVariants.{Usage, FileFault, TooLong, NotRead, NotVerified, RulesRefused, Accepted, Instrumented, Ran, Loaded, Hushed, Raced, Traced}
 
 -- what holds of the file that a program is from, where another holds
 pub of_origin : (P Q : Text → Type 0) (origin : Origin) → ((name : Text) → P name → Q name) → IsFrom P origin → IsFrom Q origin
@@ -49,17 +51,21 @@ pub unloaded : (files : FilesSeen) (hosts : HostTable) (asked : Option Job) (kep
     → kept ≡ empty_record → IsUnloaded files hosts (origin_of job) found → HasCause files hosts asked kept found
 unloaded files hosts asked kept job Usage is empty of = absurd of.2
 unloaded files hosts asked kept job (FileFault role.Program) is empty of = (record { job = job; is = is; holds = of }, empty)
+unloaded files hosts asked kept job (FileFault role.Rules) is empty of = absurd of
 unloaded files hosts asked kept job (FileFault role.Input) is empty of = absurd of
 unloaded files hosts asked kept job (TooLong role.Program) is empty of = (record { job = job; is = is; holds = of }, empty)
+unloaded files hosts asked kept job (TooLong role.Rules) is empty of = absurd of
 unloaded files hosts asked kept job (TooLong role.Input) is empty of = absurd of
 unloaded files hosts asked kept job (NotRead read_fault) is empty of =
     (record { job = job; is = is; text = of.0; read = of.1; holds = of.2 }, empty)
 unloaded files hosts asked kept job (NotVerified rule at) is empty of =
     (record { job = job; is = is; text = of.0; read = of.1; holds = of.2 }, empty)
+unloaded files hosts asked kept job (RulesRefused why line) is empty of = absurd of.2
 unloaded files hosts asked kept job (Accepted functions instructions) is empty of = absurd of.2
 unloaded files hosts asked kept job (Instrumented target) is empty of = absurd of.2
 unloaded files hosts asked kept job Ran is empty of = absurd of.2
 unloaded files hosts asked kept job (Loaded seed size) is empty of = absurd of.2
+unloaded files hosts asked kept job (Hushed rules) is empty of = absurd of.2
 unloaded files hosts asked kept job (Raced races) is empty of = absurd of.2
 unloaded files hosts asked kept job (Traced violations) is empty of = absurd of.2
 
@@ -109,6 +115,18 @@ of_file : (P Q : Text → Type 0) (file : Option Text) → ((name : Text) → P 
 of_file P Q None implies of = absurd of
 of_file P Q (Some name) implies of = implies name of
 
+-- what holds of the text that was read of a file
+later_read : (part whole : FilesSeen) (P : List ℕ → Type 0) (file : Text) → ((name : Text) → part.content name ≡ whole.content name) → OfRead part file P
+    → OfRead whole file P
+later_read part whole P file same of = (of.0, same_read part whole file of.0 (same file) of.1, of.2)
+
+later_rules : (part whole : FilesSeen) (program : Program) (file : Option Text) → IsLaterPart part whole
+    → IfSome file (λ name. OfRead part name (λ text. (rules : Rules) × AreRulesIn program text rules))
+    → IfSome file (λ name. OfRead whole name (λ text. (rules : Rules) × AreRulesIn program text rules))
+later_rules part whole program None later of = of
+later_rules part whole program (Some name) later of =
+    later_read part whole (λ text. (rules : Rules) × AreRulesIn program text rules) name later.content of
+
 later_serves : (part whole : FilesSeen) (hosts : HostTable) (kept : RunRecord) (found : Outcome) (program : Program) (job : Job) → IsLaterPart part whole
     → Serves part hosts kept found program job → Serves whole hosts kept found program job
 later_serves part whole hosts kept found program (Check file) later serves = serves
@@ -121,7 +139,10 @@ later_serves part whole hosts kept found program (Load run) later serves =
     (serves.0, later_native part whole hosts kept program default_settings later serves.1)
 later_serves part whole hosts kept found program (Races run) later serves =
     (later_scheduled part whole hosts kept program run later serves.0, serves.1)
-later_serves part whole hosts kept found program (Hush run) later serves = absurd serves
+later_serves part whole hosts kept found program (Hush run) later serves = (
+  later_native part whole hosts kept program run.settings later serves.0,
+  (serves.1.0, serves.1.1, later_read part whole (λ text. AreRulesIn program text serves.1.0) run.rules later.content serves.1.2),
+)
 later_serves part whole hosts kept found program (Explain run) later serves =
     (later_scheduled part whole hosts kept program run later serves.0, serves.1)
 
@@ -129,24 +150,44 @@ later_finds : (part whole : FilesSeen) (hosts : HostTable) (kept : RunRecord) (f
     → FindsIn part hosts kept found job program → FindsIn whole hosts kept found job program
 later_finds part whole hosts kept Usage job program later finds = (finds.0, later_serves part whole hosts kept Usage program job later finds.1)
 later_finds part whole hosts kept (FileFault role.Program) job program later finds = (finds.0, later_serves part whole hosts kept (FileFault role.Program) program job later finds.1)
+later_finds part whole hosts kept (FileFault role.Rules) job program later finds = (
+  finds.0,
+  of_file (λ file. Failed part file) (λ file. Failed whole file) (rules_in job) (λ file failed. later_failed part whole file later failed) finds.1,
+  finds.2,
+)
 later_finds part whole hosts kept (FileFault role.Input) job program later finds = (
   finds.0,
   of_file (λ file. Failed part file) (λ file. Failed whole file) (input_in job) (λ file failed. later_failed part whole file later failed) finds.1,
   finds.2,
+  later_rules part whole program (rules_in job) later finds.3,
 )
 later_finds part whole hosts kept (TooLong role.Program) job program later finds = (finds.0, later_serves part whole hosts kept (TooLong role.Program) program job later finds.1)
+later_finds part whole hosts kept (TooLong role.Rules) job program later finds = (
+  finds.0,
+  of_file (λ file. WasTooLong part file most_bytes) (λ file. WasTooLong whole file most_bytes) (rules_in job)
+      (λ file long. later_too_long part whole file later long) finds.1,
+  finds.2,
+)
 later_finds part whole hosts kept (TooLong role.Input) job program later finds = (
   finds.0,
   of_file (λ file. WasTooLong part file most_bytes) (λ file. WasTooLong whole file most_bytes) (input_in job)
       (λ file long. later_too_long part whole file later long) finds.1,
   finds.2,
+  later_rules part whole program (rules_in job) later finds.3,
 )
 later_finds part whole hosts kept (NotRead read_fault) job program later finds = (finds.0, later_serves part whole hosts kept (NotRead read_fault) program job later finds.1)
 later_finds part whole hosts kept (NotVerified rule at) job program later finds = (finds.0, later_serves part whole hosts kept (NotVerified rule at) program job later finds.1)
+later_finds part whole hosts kept (RulesRefused why line) job program later finds = (
+  finds.0,
+  of_file (λ file. OfRead part file (λ text. IsRefusedAt program text why line)) (λ file. OfRead whole file (λ text. IsRefusedAt program text why line)) (rules_in job)
+      (λ file of. later_read part whole (λ text. IsRefusedAt program text why line) file later.content of) finds.1,
+  finds.2,
+)
 later_finds part whole hosts kept (Accepted functions instructions) job program later finds = (finds.0, later_serves part whole hosts kept (Accepted functions instructions) program job later finds.1)
 later_finds part whole hosts kept (Instrumented target) job program later finds = (finds.0, later_serves part whole hosts kept (Instrumented target) program job later finds.1)
 later_finds part whole hosts kept Ran job program later finds = (finds.0, later_serves part whole hosts kept Ran program job later finds.1)
 later_finds part whole hosts kept (Loaded seed size) job program later finds = (finds.0, later_serves part whole hosts kept (Loaded seed size) program job later finds.1)
+later_finds part whole hosts kept (Hushed rules) job program later finds = (finds.0, later_serves part whole hosts kept (Hushed rules) program job later finds.1)
 later_finds part whole hosts kept (Raced races) job program later finds = (finds.0, later_serves part whole hosts kept (Raced races) program job later finds.1)
 later_finds part whole hosts kept (Traced violations) job program later finds = (finds.0, later_serves part whole hosts kept (Traced violations) program job later finds.1)
 
@@ -157,6 +198,7 @@ IsServing (FileFault of) = ⊥
 IsServing (TooLong of) = ⊥
 IsServing (NotRead read_fault) = ⊥
 IsServing (NotVerified rule at) = ⊥
+IsServing (RulesRefused why line) = ⊥
 IsServing found = Unit {0}
 
 serving : (files : FilesSeen) (hosts : HostTable) (kept : RunRecord) (found : Outcome) (program : Program) (job : Job) → Serves files hosts kept found program job
@@ -167,7 +209,7 @@ serving files hosts kept found program (Replay run) serves = subst IsServing (sy
 serving files hosts kept found program (Run run) serves = subst IsServing (sym serves.0) tt
 serving files hosts kept found program (Load run) serves = subst IsServing (sym serves.0) tt
 serving files hosts kept found program (Races run) serves = subst IsServing (sym serves.1.1) tt
-serving files hosts kept found program (Hush run) serves = absurd serves
+serving files hosts kept found program (Hush run) serves = subst IsServing (sym serves.1.1) tt
 serving files hosts kept found program (Explain run) serves = subst IsServing (sym serves.1.1) tt
 
 -- what a job finds in its program is a cause
@@ -175,15 +217,19 @@ caused : (files : FilesSeen) (hosts : HostTable) (asked : Option Job) (kept : Ru
     → HasCause files hosts asked kept found
 caused files hosts asked kept Usage of = absurd (serving files hosts kept Usage of.program of.job of.holds.1)
 caused files hosts asked kept (FileFault role.Program) of = absurd (serving files hosts kept (FileFault role.Program) of.program of.job of.holds.1)
+caused files hosts asked kept (FileFault role.Rules) of = of
 caused files hosts asked kept (FileFault role.Input) of = of
 caused files hosts asked kept (TooLong role.Program) of = absurd (serving files hosts kept (TooLong role.Program) of.program of.job of.holds.1)
+caused files hosts asked kept (TooLong role.Rules) of = of
 caused files hosts asked kept (TooLong role.Input) of = of
 caused files hosts asked kept (NotRead read_fault) of = absurd (serving files hosts kept (NotRead read_fault) of.program of.job of.holds.1)
 caused files hosts asked kept (NotVerified rule at) of = absurd (serving files hosts kept (NotVerified rule at) of.program of.job of.holds.1)
+caused files hosts asked kept (RulesRefused why line) of = of
 caused files hosts asked kept (Accepted functions instructions) of = of
 caused files hosts asked kept (Instrumented target) of = of
 caused files hosts asked kept Ran of = of
 caused files hosts asked kept (Loaded seed size) of = of
+caused files hosts asked kept (Hushed rules) of = of
 caused files hosts asked kept (Raced races) of = of
 caused files hosts asked kept (Traced violations) of = of
 

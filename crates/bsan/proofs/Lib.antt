@@ -4,3 +4,4 @@ pub mod Legal
 pub mod Reportable
 pub mod Complete
 pub mod Status
+pub mod Hushing

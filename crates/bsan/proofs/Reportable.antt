@@ -16,7 +16,7 @@ use Rattle.bsan.specs.Answer.{OfJob, Serves, FindsIn, HasCause, CanBeTold, IsEmp
 use Rattle.bsan.proofs.Legal.{right_histories}
 use Rattle.bsan.specs.declared.outcome.Role.TheVariants as role
 use Rattle.bsan.specs.declared.outcome.Outcome.{Outcome}
-use Rattle.bsan.specs.declared.outcome.Outcome.TheVariants.{Usage, FileFault, TooLong, NotRead, NotVerified, Accepted, Instrumented, Ran, Loaded, Raced, Traced}
+use Rattle.bsan.specs.declared.outcome.Outcome.TheVariants.{Usage, FileFault, TooLong, NotRead, NotVerified, RulesRefused, Accepted, Instrumented, Ran, Loaded, Hushed, Raced, Traced}
 
 pub run_reportable : (files : FilesSeen) (hosts : HostTable) (kept : RunRecord) (program : Program) (run : ScheduledRun)
     → IsScheduledRun files hosts kept program run → IsReportable kept
@@ -44,7 +44,8 @@ serves_told files hosts kept found program (Load run) serves =
     subst (λ (f : Outcome). CanBeTold f kept) (sym serves.0) (native_reportable files hosts kept program default_settings serves.1)
 serves_told files hosts kept found program (Races run) serves =
     subst (λ (f : Outcome). CanBeTold f kept) (sym serves.1.1) ((run_reportable files hosts kept program run serves.0).distinct, serves.1.2)
-serves_told files hosts kept found program (Hush run) serves = absurd serves
+serves_told files hosts kept found program (Hush run) serves =
+    subst (λ (f : Outcome). CanBeTold f kept) (sym serves.1.1) (native_reportable files hosts kept program run.settings serves.0)
 serves_told files hosts kept found program (Explain run) serves =
     subst (λ (f : Outcome). CanBeTold f kept) (sym serves.1.1)
     (run_histories files hosts kept program run serves.0, (run_reportable files hosts kept program run serves.0).distinct, serves.1.2)
@@ -56,10 +57,12 @@ found_told files hosts asked kept (FileFault of) cause = tt
 found_told files hosts asked kept (TooLong of) cause = tt
 found_told files hosts asked kept (NotRead read_fault) cause = tt
 found_told files hosts asked kept (NotVerified rule at) cause = tt
+found_told files hosts asked kept (RulesRefused why line) cause = tt
 found_told files hosts asked kept (Accepted functions instructions) cause = tt
 found_told files hosts asked kept (Instrumented target) cause = tt
 found_told files hosts asked kept Ran cause = serves_told files hosts kept Ran cause.program cause.job cause.holds.1
 found_told files hosts asked kept (Loaded seed size) cause = serves_told files hosts kept (Loaded seed size) cause.program cause.job cause.holds.1
+found_told files hosts asked kept (Hushed rules) cause = serves_told files hosts kept (Hushed rules) cause.program cause.job cause.holds.1
 found_told files hosts asked kept (Raced races) cause = serves_told files hosts kept (Raced races) cause.program cause.job cause.holds.1
 found_told files hosts asked kept (Traced violations) cause = serves_told files hosts kept (Traced violations) cause.program cause.job cause.holds.1
 
@@ -72,7 +75,7 @@ serves_left files hosts kept found program (Replay run) serves = inr serves.1
 serves_left files hosts kept found program (Run run) serves = inr serves.1
 serves_left files hosts kept found program (Load run) serves = inr serves.1
 serves_left files hosts kept found program (Races run) serves = inr serves.0
-serves_left files hosts kept found program (Hush run) serves = absurd serves
+serves_left files hosts kept found program (Hush run) serves = inr serves.0
 serves_left files hosts kept found program (Explain run) serves = inr serves.0
 
 of_served : (files : FilesSeen) (hosts : HostTable) (asked : Option Job) (kept : RunRecord) (found : Outcome) (of : OfJob files asked (FindsIn files hosts kept found))
@@ -86,15 +89,19 @@ pub left : (files : FilesSeen) (hosts : HostTable) (asked : Option Job) (kept : 
     → IsEmptyOrRight files hosts asked kept
 left files hosts asked kept Usage cause = inl cause.1
 left files hosts asked kept (FileFault role.Program) cause = inl cause.1
+left files hosts asked kept (FileFault role.Rules) cause = inl cause.holds.2
 left files hosts asked kept (FileFault role.Input) cause = inl cause.holds.2
 left files hosts asked kept (TooLong role.Program) cause = inl cause.1
+left files hosts asked kept (TooLong role.Rules) cause = inl cause.holds.2
 left files hosts asked kept (TooLong role.Input) cause = inl cause.holds.2
 left files hosts asked kept (NotRead read_fault) cause = inl cause.1
 left files hosts asked kept (NotVerified rule at) cause = inl cause.1
+left files hosts asked kept (RulesRefused why line) cause = inl cause.holds.2
 left files hosts asked kept (Accepted functions instructions) cause =
     of_served files hosts asked kept (Accepted functions instructions) cause cause.holds.0 cause.holds.1
 left files hosts asked kept (Instrumented target) cause = of_served files hosts asked kept (Instrumented target) cause cause.holds.0 cause.holds.1
 left files hosts asked kept Ran cause = of_served files hosts asked kept Ran cause cause.holds.0 cause.holds.1
 left files hosts asked kept (Loaded seed size) cause = of_served files hosts asked kept (Loaded seed size) cause cause.holds.0 cause.holds.1
+left files hosts asked kept (Hushed rules) cause = of_served files hosts asked kept (Hushed rules) cause cause.holds.0 cause.holds.1
 left files hosts asked kept (Raced races) cause = of_served files hosts asked kept (Raced races) cause cause.holds.0 cause.holds.1
 left files hosts asked kept (Traced violations) cause = of_served files hosts asked kept (Traced violations) cause cause.holds.0 cause.holds.1

@@ -12,16 +12,17 @@ use Rattle.ir_rules.specs.Rules.{IsAccepted}
 use Rattle.race_check.specs.Text.{race_text}
 use Rattle.race_check.specs.declared.race.Race.{Race}
 use Rattle.report.specs.Report.{status_of, any_end, is_no_memory, is_limit, is_trap}
-use Rattle.bsan.specs.Words.{Text, origin_of, input_in}
+use Rattle.bsan.specs.Words.{Text, origin_of, input_in, rules_in}
 use Rattle.bsan.specs.Seen.{FilesSeen, SinkSeen, Failed, WasTooLong, IsFault, Puts}
 use Rattle.bsan.specs.Seen.Puts.{whole, failed, no_memory}
+use Rattle.bsan.specs.Rules.{IsRefusedAt, OfRead}
 use Rattle.bsan.specs.Answer.{OfText, OfProgram, OfJob, FindsIn, HasCause, Answers, text_for, status_for}
-use Rattle.bsan.specs.Causes.{IsCutShort, IsRefused, IsBrokenFirst, IsUnread, HasUnreadInput, ReadCause, TellsRun, RanWhole, RanWith, RacedWhole, AcceptedWhole, InstrumentedWhole, RunCause, PutNothing, MemoryCause, LeavesNone, has_violations}
+use Rattle.bsan.specs.Causes.{IsCutShort, IsRefused, IsBrokenFirst, IsUnread, HasRefusedLine, HasRefusedRules, HasUnreadFile, ReadCause, TellsRun, RanWhole, RanWith, RacedWhole, AcceptedWhole, InstrumentedWhole, RunCause, PutNothing, MemoryCause, LeavesNone, tells_violation}
 use Rattle.bsan.proofs.Found.{of_origin}
 use Rattle.bsan.proofs.Reportable.{left}
 use Rattle.bsan.specs.declared.outcome.Role.TheVariants as role
 use Rattle.bsan.specs.declared.outcome.Outcome.{Outcome}
-use Rattle.bsan.specs.declared.outcome.Outcome.TheVariants.{Usage, FileFault, TooLong, NotRead, NotVerified, Accepted, Instrumented, Ran, Loaded, Raced, Traced}
+use Rattle.bsan.specs.declared.outcome.Outcome.TheVariants.{Usage, FileFault, TooLong, NotRead, NotVerified, RulesRefused, Accepted, Instrumented, Ran, Loaded, Hushed, Raced, Traced}
 
 -- ---- the status of a record, by the ends of its threads and by its violations
 abbrev ranked : Bool → Bool → Bool → Bool → ℕ
@@ -38,8 +39,12 @@ ranked_is false false true d = refl
 ranked_is false false false true = refl
 ranked_is false false false false = refl
 
-run_status : (kept : RunRecord) → is_run_status (status_of kept) ≡ true
-run_status kept = ranked_is (any_end is_no_memory kept) (any_end is_limit kept) (any_end is_trap kept) (has_violations kept)
+-- the status of what is told of a run, races aside
+abbrev run_status : Outcome → RunRecord → ℕ
+run_status found kept = ranked (any_end is_no_memory kept) (any_end is_limit kept) (any_end is_trap kept) (tells_violation found kept)
+
+run_status_is : (found : Outcome) (kept : RunRecord) → is_run_status (run_status found kept) ≡ true
+run_status_is found kept = ranked_is (any_end is_no_memory kept) (any_end is_limit kept) (any_end is_trap kept) (tells_violation found kept)
 
 -- each of its statuses tells what is in the record
 none_at_0 : (a b c d : Bool) (n : ℕ) → n ≡ 0 → n ≡ ranked a b c d → not d ≡ true
@@ -98,28 +103,30 @@ raced_as n status count is = by_tests (nat_le status 1) (count == 0) refl refl i
     by_tests true false lows nones is = inr (record { ten = is; low = leb-true status 1 lows; some = some count nones })
 
 -- what is told of a run has the run's own status, or 10
-told_as : (found : Outcome) (kept : RunRecord) (n : ℕ) → TellsRun found → n ≡ status_for found kept → (n ≡ status_of kept) ⊎ (n ≡ 10)
+told_as : (found : Outcome) (kept : RunRecord) (n : ℕ) → TellsRun found → n ≡ status_for found kept → (n ≡ run_status found kept) ⊎ (n ≡ 10)
 told_as Usage kept n tells is = absurd tells
 told_as (FileFault of) kept n tells is = absurd tells
 told_as (TooLong of) kept n tells is = absurd tells
 told_as (NotRead read_fault) kept n tells is = absurd tells
 told_as (NotVerified rule at) kept n tells is = absurd tells
+told_as (RulesRefused why line) kept n tells is = absurd tells
 told_as (Accepted functions instructions) kept n tells is = absurd tells
 told_as (Instrumented target) kept n tells is = absurd tells
 told_as Ran kept n tells is = inl is
 told_as (Loaded seed size) kept n tells is = inl is
+told_as (Hushed rules) kept n tells is = inl is
 told_as (Traced violations) kept n tells is = inl is
 told_as (Raced races) kept n tells is = elim (raced_as n (status_of kept) (length races) is) [ inl own ↦ inl own | inr ten ↦ inr ten.ten ]
 
 -- the run's own, where it is not 10
-told_own : (found : Outcome) (kept : RunRecord) (n : ℕ) → TellsRun found → n ≡ status_for found kept → n ≢ 10 → n ≡ status_of kept
+told_own : (found : Outcome) (kept : RunRecord) (n : ℕ) → TellsRun found → n ≡ status_for found kept → n ≢ 10 → n ≡ run_status found kept
 told_own found kept n tells is other = elim (told_as found kept n tells is) [ inl own ↦ own | inr ten ↦ absurd (other ten) ]
 
 -- and so none that is no run's
 not_told : (found : Outcome) (kept : RunRecord) (n : ℕ) → TellsRun found → n ≡ status_for found kept → n ≢ 10 → is_run_status n ≡ false → ⊥
 not_told found kept n tells is other unlike =
     let own = told_own found kept n tells is other in
-    true≢false (sym (run_status kept) ∙ ap is_run_status (sym own) ∙ unlike)
+    true≢false (sym (run_status_is found kept) ∙ ap is_run_status (sym own) ∙ unlike)
 
 -- one put that answers a status that is neither 8 nor 9 put the text of this status
 put_whole : (sink : SinkSeen) (text : List ℕ) (status answer n : ℕ) → Puts sink text status answer → answer ≡ n → (IsCutShort n → ⊥)
@@ -132,6 +139,10 @@ put_whole sink text status answer n (no_memory is keeps) same uncut = absurd (un
 uncut_low : (n : ℕ) → n < 8 → IsCutShort n → ⊥
 uncut_low n low (inl is) = omega (arith, low, is)
 uncut_low n low (inr is) = omega (arith, low, is)
+
+uncut_12 : IsCutShort 12 → ⊥
+uncut_12 (inl is) = omega (arith, is)
+uncut_12 (inr is) = omega (arith, is)
 
 -- 3: the text was refused
 pub unread : (files : FilesSeen) (hosts : HostTable) (sink : SinkSeen) (asked : Option Job) (kept : RunRecord) (answer : ℕ)
@@ -152,10 +163,12 @@ unread files hosts sink asked kept answer (inl told) is =
       holds = (read_fault, cause.0.holds);
     }
     by_found (NotVerified rule at) cause e = absurd (omega (arith, e))
+    by_found (RulesRefused why line) cause e = absurd (omega (arith, e))
     by_found (Accepted functions instructions) cause e = absurd (omega (arith, e))
     by_found (Instrumented target) cause e = absurd (omega (arith, e))
     by_found Ran cause e = absurd (not_told Ran kept 3 tt e (λ ten. omega (arith, ten)) refl)
     by_found (Loaded seed size) cause e = absurd (not_told (Loaded seed size) kept 3 tt e (λ ten. omega (arith, ten)) refl)
+    by_found (Hushed rules) cause e = absurd (not_told (Hushed rules) kept 3 tt e (λ ten. omega (arith, ten)) refl)
     by_found (Raced races) cause e = absurd (not_told (Raced races) kept 3 tt e (λ ten. omega (arith, ten)) refl)
     by_found (Traced violations) cause e = absurd (not_told (Traced violations) kept 3 tt e (λ ten. omega (arith, ten)) refl)
 
@@ -179,10 +192,12 @@ unverified files hosts sink asked kept answer (inl told) is =
       read = cause.0.read;
       holds = record { program = cause.0.holds.program; reads = cause.0.holds.reads; holds = (rule, at, cause.0.holds.holds) };
     }
+    by_found (RulesRefused why line) cause e = absurd (omega (arith, e))
     by_found (Accepted functions instructions) cause e = absurd (omega (arith, e))
     by_found (Instrumented target) cause e = absurd (omega (arith, e))
     by_found Ran cause e = absurd (not_told Ran kept 4 tt e (λ ten. omega (arith, ten)) refl)
     by_found (Loaded seed size) cause e = absurd (not_told (Loaded seed size) kept 4 tt e (λ ten. omega (arith, ten)) refl)
+    by_found (Hushed rules) cause e = absurd (not_told (Hushed rules) kept 4 tt e (λ ten. omega (arith, ten)) refl)
     by_found (Raced races) cause e = absurd (not_told (Raced races) kept 4 tt e (λ ten. omega (arith, ten)) refl)
     by_found (Traced violations) cause e = absurd (not_told (Traced violations) kept 4 tt e (λ ten. omega (arith, ten)) refl)
 
@@ -198,89 +213,140 @@ read_cause files hosts sink asked kept answer (inr out) is = absurd (let nine = 
 read_cause files hosts sink asked kept answer (inl told) is =
     by_found told.found told.cause (put_whole sink _ (status_for told.found kept) answer 7 told.puts is (uncut_low 7 (omega arith))).0
   where
-    with_input : (found : Outcome) (of : OfJob files asked (FindsIn files hosts kept found)) → IsAccepted of.program hosts
-        → IsSomeAnd (input_in of.job) (λ file. IsFault files file) → OfJob files asked (HasUnreadInput files hosts)
-    with_input found of accepted unread =
+    with_file : (found : Outcome) (of : OfJob files asked (FindsIn files hosts kept found)) → IsAccepted of.program hosts
+        → IsSomeAnd (rules_in of.job) (λ file. IsFault files file) ⊎ IsSomeAnd (input_in of.job) (λ file. IsFault files file)
+        → OfJob files asked (HasUnreadFile files hosts)
+    with_file found of accepted unread =
         record { job = of.job; is = of.is; program = of.program; has = of.has; holds = record { accepted = accepted; unread = unread } }
 
     by_found : (found : Outcome) → HasCause files hosts asked kept found → 7 ≡ status_for found kept
-        → IsUnread files asked ⊎ OfJob files asked (HasUnreadInput files hosts)
+        → IsUnread files asked ⊎ OfJob files asked (HasUnreadFile files hosts)
     by_found Usage cause e = absurd (omega (arith, e))
     by_found (FileFault role.Program) cause e = inl (record {
       job = cause.0.job;
       is = cause.0.is;
       holds = of_origin (λ file. Failed files file) (λ file. IsFault files file) (origin_of cause.0.job) (λ file failed. inl failed) cause.0.holds;
     })
+    by_found (FileFault role.Rules) cause e =
+        inr (with_file (FileFault role.Rules) cause cause.holds.0
+        (inl (of_input (λ file. Failed files file) (λ file. IsFault files file) (rules_in cause.job) (λ file failed. inl failed) cause.holds.1)))
     by_found (FileFault role.Input) cause e =
-        inr (with_input (FileFault role.Input) cause cause.holds.0
-        (of_input (λ file. Failed files file) (λ file. IsFault files file) (input_in cause.job) (λ file failed. inl failed) cause.holds.1))
+        inr (with_file (FileFault role.Input) cause cause.holds.0
+        (inr (of_input (λ file. Failed files file) (λ file. IsFault files file) (input_in cause.job) (λ file failed. inl failed) cause.holds.1)))
     by_found (TooLong role.Program) cause e = inl (record {
       job = cause.0.job;
       is = cause.0.is;
       holds = of_origin (λ file. WasTooLong files file most_bytes) (λ file. IsFault files file) (origin_of cause.0.job) (λ file long. inr long) cause.0.holds;
     })
+    by_found (TooLong role.Rules) cause e =
+        inr (with_file (TooLong role.Rules) cause cause.holds.0
+        (inl (of_input (λ file. WasTooLong files file most_bytes) (λ file. IsFault files file) (rules_in cause.job) (λ file long. inr long) cause.holds.1)))
     by_found (TooLong role.Input) cause e =
-        inr (with_input (TooLong role.Input) cause cause.holds.0
-        (of_input (λ file. WasTooLong files file most_bytes) (λ file. IsFault files file) (input_in cause.job) (λ file long. inr long) cause.holds.1))
+        inr (with_file (TooLong role.Input) cause cause.holds.0
+        (inr (of_input (λ file. WasTooLong files file most_bytes) (λ file. IsFault files file) (input_in cause.job) (λ file long. inr long) cause.holds.1)))
     by_found (NotRead read_fault) cause e = absurd (omega (arith, e))
     by_found (NotVerified rule at) cause e = absurd (omega (arith, e))
+    by_found (RulesRefused why line) cause e = absurd (omega (arith, e))
     by_found (Accepted functions instructions) cause e = absurd (omega (arith, e))
     by_found (Instrumented target) cause e = absurd (omega (arith, e))
     by_found Ran cause e = absurd (not_told Ran kept 7 tt e (λ ten. omega (arith, ten)) refl)
     by_found (Loaded seed size) cause e = absurd (not_told (Loaded seed size) kept 7 tt e (λ ten. omega (arith, ten)) refl)
+    by_found (Hushed rules) cause e = absurd (not_told (Hushed rules) kept 7 tt e (λ ten. omega (arith, ten)) refl)
     by_found (Raced races) cause e = absurd (not_told (Raced races) kept 7 tt e (λ ten. omega (arith, ten)) refl)
     by_found (Traced violations) cause e = absurd (not_told (Traced violations) kept 7 tt e (λ ten. omega (arith, ten)) refl)
 
--- 2, 3, 4 and 7: no record is left
+-- 12: a line of the rules was refused
+pub refused_rules : (files : FilesSeen) (hosts : HostTable) (sink : SinkSeen) (asked : Option Job) (kept : RunRecord) (answer : ℕ)
+    → Answers files hosts sink asked kept answer → answer ≡ 12 → OfJob files asked (HasRefusedRules files hosts)
+refused_rules files hosts sink asked kept answer (inr out) is = absurd (let nine = out.status in omega arith)
+refused_rules files hosts sink asked kept answer (inl told) is =
+    by_found told.found told.cause (put_whole sink _ (status_for told.found kept) answer 12 told.puts is uncut_12).0
+  where
+    by_found : (found : Outcome) → HasCause files hosts asked kept found → 12 ≡ status_for found kept → OfJob files asked (HasRefusedRules files hosts)
+    by_found Usage cause e = absurd (omega (arith, e))
+    by_found (FileFault of) cause e = absurd (omega (arith, e))
+    by_found (TooLong of) cause e = absurd (omega (arith, e))
+    by_found (NotRead read_fault) cause e = absurd (omega (arith, e))
+    by_found (NotVerified rule at) cause e = absurd (omega (arith, e))
+    by_found (RulesRefused why line) cause e = record {
+      job = cause.job;
+      is = cause.is;
+      program = cause.program;
+      has = cause.has;
+      holds = record {
+        accepted = cause.holds.0;
+        refused = of_input (λ file. OfRead files file (λ text. IsRefusedAt cause.program text why line))
+            (λ file. OfRead files file (HasRefusedLine cause.program)) (rules_in cause.job)
+            (λ file of. (of.0, of.1, (why, line, of.2))) cause.holds.1;
+      };
+    }
+    by_found (Accepted functions instructions) cause e = absurd (omega (arith, e))
+    by_found (Instrumented target) cause e = absurd (omega (arith, e))
+    by_found Ran cause e = absurd (not_told Ran kept 12 tt e (λ ten. omega (arith, ten)) refl)
+    by_found (Loaded seed size) cause e = absurd (not_told (Loaded seed size) kept 12 tt e (λ ten. omega (arith, ten)) refl)
+    by_found (Hushed rules) cause e = absurd (not_told (Hushed rules) kept 12 tt e (λ ten. omega (arith, ten)) refl)
+    by_found (Raced races) cause e = absurd (not_told (Raced races) kept 12 tt e (λ ten. omega (arith, ten)) refl)
+    by_found (Traced violations) cause e = absurd (not_told (Traced violations) kept 12 tt e (λ ten. omega (arith, ten)) refl)
+
+-- 2, 3, 4, 7 and 12: no record is left
 pub no_record : (files : FilesSeen) (hosts : HostTable) (sink : SinkSeen) (asked : Option Job) (kept : RunRecord) (answer : ℕ)
     → Answers files hosts sink asked kept answer → LeavesNone kept answer
 no_record files hosts sink asked kept answer (inr out) is = absurd (nine out.status is)
   where
-    nine : answer ≡ 9 → (answer ≡ 2) ⊎ (answer ≡ 3) ⊎ (answer ≡ 4) ⊎ (answer ≡ 7) → ⊥
+    nine : answer ≡ 9 → (answer ≡ 2) ⊎ (answer ≡ 3) ⊎ (answer ≡ 4) ⊎ (answer ≡ 7) ⊎ (answer ≡ 12) → ⊥
     nine at (inl e) = omega (arith, at, e)
     nine at (inr (inl e)) = omega (arith, at, e)
     nine at (inr (inr (inl e))) = omega (arith, at, e)
-    nine at (inr (inr (inr e))) = omega (arith, at, e)
+    nine at (inr (inr (inr (inl e)))) = omega (arith, at, e)
+    nine at (inr (inr (inr (inr e)))) = omega (arith, at, e)
 no_record files hosts sink asked kept answer (inl told) is = by_status is
   where
     by_found : (n : ℕ) (found : Outcome) → HasCause files hosts asked kept found → n ≡ status_for found kept → n ≢ 0 → n ≢ 10 → is_run_status n ≡ false
         → kept ≡ empty_record
     by_found n Usage cause e low other unlike = cause.1
     by_found n (FileFault role.Program) cause e low other unlike = cause.1
+    by_found n (FileFault role.Rules) cause e low other unlike = cause.holds.2
     by_found n (FileFault role.Input) cause e low other unlike = cause.holds.2
     by_found n (TooLong role.Program) cause e low other unlike = cause.1
+    by_found n (TooLong role.Rules) cause e low other unlike = cause.holds.2
     by_found n (TooLong role.Input) cause e low other unlike = cause.holds.2
     by_found n (NotRead read_fault) cause e low other unlike = cause.1
     by_found n (NotVerified rule at) cause e low other unlike = cause.1
+    by_found n (RulesRefused why line) cause e low other unlike = cause.holds.2
     by_found n (Accepted functions instructions) cause e low other unlike = absurd (low e)
     by_found n (Instrumented target) cause e low other unlike = absurd (low e)
     by_found n Ran cause e low other unlike = absurd (not_told Ran kept n tt e other unlike)
     by_found n (Loaded seed size) cause e low other unlike = absurd (not_told (Loaded seed size) kept n tt e other unlike)
+    by_found n (Hushed rules) cause e low other unlike = absurd (not_told (Hushed rules) kept n tt e other unlike)
     by_found n (Raced races) cause e low other unlike = absurd (not_told (Raced races) kept n tt e other unlike)
     by_found n (Traced violations) cause e low other unlike = absurd (not_told (Traced violations) kept n tt e other unlike)
 
-    at : (n : ℕ) → answer ≡ n → n < 8 → n ≢ 0 → is_run_status n ≡ false → kept ≡ empty_record
-    at n e small some unlike =
-        by_found n told.found told.cause (put_whole sink _ (status_for told.found kept) answer n told.puts e (uncut_low n small)).0 some
-        (λ ten. omega (arith, small, ten)) unlike
+    at : (n : ℕ) → answer ≡ n → (IsCutShort n → ⊥) → n ≢ 0 → n ≢ 10 → is_run_status n ≡ false → kept ≡ empty_record
+    at n e uncut some other unlike =
+        by_found n told.found told.cause (put_whole sink _ (status_for told.found kept) answer n told.puts e uncut).0 some other unlike
 
-    by_status : (answer ≡ 2) ⊎ (answer ≡ 3) ⊎ (answer ≡ 4) ⊎ (answer ≡ 7) → kept ≡ empty_record
-    by_status (inl e) = at 2 e (omega arith) (λ z. omega (arith, z)) refl
-    by_status (inr (inl e)) = at 3 e (omega arith) (λ z. omega (arith, z)) refl
-    by_status (inr (inr (inl e))) = at 4 e (omega arith) (λ z. omega (arith, z)) refl
-    by_status (inr (inr (inr e))) = at 7 e (omega arith) (λ z. omega (arith, z)) refl
+    low : (n : ℕ) → answer ≡ n → n < 8 → n ≢ 0 → is_run_status n ≡ false → kept ≡ empty_record
+    low n e small some unlike = at n e (uncut_low n small) some (λ ten. omega (arith, small, ten)) unlike
+
+    by_status : (answer ≡ 2) ⊎ (answer ≡ 3) ⊎ (answer ≡ 4) ⊎ (answer ≡ 7) ⊎ (answer ≡ 12) → kept ≡ empty_record
+    by_status (inl e) = low 2 e (omega arith) (λ z. omega (arith, z)) refl
+    by_status (inr (inl e)) = low 3 e (omega arith) (λ z. omega (arith, z)) refl
+    by_status (inr (inr (inl e))) = low 4 e (omega arith) (λ z. omega (arith, z)) refl
+    by_status (inr (inr (inr (inl e)))) = low 7 e (omega arith) (λ z. omega (arith, z)) refl
+    by_status (inr (inr (inr (inr e)))) = at 12 e uncut_12 (λ z. omega (arith, z)) (λ ten. omega (arith, ten)) refl
 
 -- ---- statuses of runs
 -- a run, of which the whole text was put
-whole_run : (files : FilesSeen) (hosts : HostTable) (sink : SinkSeen) (asked : Option Job) (kept : RunRecord) (answer : ℕ) (found : Outcome)
+abbrev whole_run : (files : FilesSeen) (hosts : HostTable) (sink : SinkSeen) (asked : Option Job) (kept : RunRecord) (answer : ℕ) (found : Outcome)
     → TellsRun found → OfJob files asked (FindsIn files hosts kept found) → answer ≡ status_for found kept → Appends sink.taken_before sink.taken_after (text_for found kept)
     → RanWhole files hosts sink asked kept answer
 whole_run files hosts sink asked kept answer found tells cause status text =
     record { found = found; tells = tells; cause = cause; status = status; text = text }
 
 -- 1, 5 and 6: a run of which the whole text was put, and what is in its record
-pub run_with : (files : FilesSeen) (hosts : HostTable) (sink : SinkSeen) (asked : Option Job) (kept : RunRecord) (answer n : ℕ) (holds : Bool)
-    → Answers files hosts sink asked kept answer → answer ≡ n → n < 8 → n ≢ 0 → is_run_status n ≡ true → (n ≡ status_of kept → holds ≡ true)
+pub run_with : (files : FilesSeen) (hosts : HostTable) (sink : SinkSeen) (asked : Option Job) (kept : RunRecord) (answer n : ℕ) (holds : Outcome → Bool)
+    → Answers files hosts sink asked kept answer → answer ≡ n → n < 8 → n ≢ 0 → is_run_status n ≡ true
+    → ((found : Outcome) → n ≡ run_status found kept → holds found ≡ true)
     → RanWith files hosts sink asked kept answer holds
 run_with files hosts sink asked kept answer n holds (inr out) is small some run shows = absurd (let nine = out.status in omega (arith, nine, is, small))
 run_with files hosts sink asked kept answer n holds (inl told) is small some run shows =
@@ -294,7 +360,7 @@ run_with files hosts sink asked kept answer n holds (inl told) is small some run
         → Appends sink.taken_before sink.taken_after (text_for found kept) → RanWith files hosts sink asked kept answer holds
     a_run found tells cause e text = record {
       run = whole_run files hosts sink asked kept answer found tells cause (is ∙ e) text;
-      shown = shows (told_own found kept n tells e (λ ten. omega (arith, small, ten)));
+      shown = shows found (told_own found kept n tells e (λ ten. omega (arith, small, ten)));
     }
 
     by_found : (found : Outcome) → HasCause files hosts asked kept found → n ≡ status_for found kept
@@ -304,17 +370,19 @@ run_with files hosts sink asked kept answer n holds (inl told) is small some run
     by_found (TooLong of) cause e text = absurd (other 7 e refl)
     by_found (NotRead read_fault) cause e text = absurd (other 3 e refl)
     by_found (NotVerified rule at) cause e text = absurd (other 4 e refl)
+    by_found (RulesRefused why line) cause e text = absurd (other 12 e refl)
     by_found (Accepted functions instructions) cause e text = absurd (some e)
     by_found (Instrumented target) cause e text = absurd (some e)
     by_found Ran cause e text = a_run Ran tt cause e text
     by_found (Loaded seed size) cause e text = a_run (Loaded seed size) tt cause e text
+    by_found (Hushed rules) cause e text = a_run (Hushed rules) tt cause e text
     by_found (Raced races) cause e text = a_run (Raced races) tt cause e text
     by_found (Traced violations) cause e text = a_run (Traced violations) tt cause e text
 
 -- 0: a run without violations, or a program that was accepted, or its target code
 clean : (files : FilesSeen) (hosts : HostTable) (sink : SinkSeen) (asked : Option Job) (kept : RunRecord) (answer : ℕ)
     → Answers files hosts sink asked kept answer → answer ≡ 0
-    → RanWith files hosts sink asked kept answer (not (has_violations kept)) ⊎ AcceptedWhole files hosts sink asked kept
+    → RanWith files hosts sink asked kept answer (λ found. not (tells_violation found kept)) ⊎ AcceptedWhole files hosts sink asked kept
     ⊎ InstrumentedWhole files hosts sink asked kept
 clean files hosts sink asked kept answer (inr out) is = absurd (let nine = out.status in omega (arith, nine, is))
 clean files hosts sink asked kept answer (inl told) is =
@@ -322,27 +390,29 @@ clean files hosts sink asked kept answer (inl told) is =
     by_found told.found told.cause put.0 put.1
   where
     a_run : (found : Outcome) → TellsRun found → OfJob files asked (FindsIn files hosts kept found) → 0 ≡ status_for found kept
-        → Appends sink.taken_before sink.taken_after (text_for found kept) → RanWith files hosts sink asked kept answer (not (has_violations kept))
+        → Appends sink.taken_before sink.taken_after (text_for found kept) → RanWith files hosts sink asked kept answer (λ found. not (tells_violation found kept))
     a_run found tells cause e text = record {
       run = whole_run files hosts sink asked kept answer found tells cause (is ∙ e) text;
-      shown = none_at_0 (any_end is_no_memory kept) (any_end is_limit kept) (any_end is_trap kept) (has_violations kept) 0 refl
+      shown = none_at_0 (any_end is_no_memory kept) (any_end is_limit kept) (any_end is_trap kept) (tells_violation found kept) 0 refl
           (told_own found kept 0 tells e (λ ten. omega (arith, ten)));
     }
 
     by_found : (found : Outcome) → HasCause files hosts asked kept found → 0 ≡ status_for found kept
         → Appends sink.taken_before sink.taken_after (text_for found kept)
-        → RanWith files hosts sink asked kept answer (not (has_violations kept)) ⊎ AcceptedWhole files hosts sink asked kept
+        → RanWith files hosts sink asked kept answer (λ found. not (tells_violation found kept)) ⊎ AcceptedWhole files hosts sink asked kept
         ⊎ InstrumentedWhole files hosts sink asked kept
     by_found Usage cause e text = absurd (omega (arith, e))
     by_found (FileFault of) cause e text = absurd (omega (arith, e))
     by_found (TooLong of) cause e text = absurd (omega (arith, e))
     by_found (NotRead read_fault) cause e text = absurd (omega (arith, e))
     by_found (NotVerified rule at) cause e text = absurd (omega (arith, e))
+    by_found (RulesRefused why line) cause e text = absurd (omega (arith, e))
     by_found (Accepted functions instructions) cause e text =
         inr (inl (record { functions = functions; instructions = instructions; cause = cause; text = text }))
     by_found (Instrumented target) cause e text = inr (inr (record { target = target; cause = cause; text = text }))
     by_found Ran cause e text = inl (a_run Ran tt cause e text)
     by_found (Loaded seed size) cause e text = inl (a_run (Loaded seed size) tt cause e text)
+    by_found (Hushed rules) cause e text = inl (a_run (Hushed rules) tt cause e text)
     by_found (Raced races) cause e text = inl (a_run (Raced races) tt cause e text)
     by_found (Traced violations) cause e text = inl (a_run (Traced violations) tt cause e text)
 
@@ -358,12 +428,12 @@ raced files hosts sink asked kept answer (inl told) is =
     uncut (inl e) = omega (arith, e)
     uncut (inr e) = omega (arith, e)
 
-    not_own : 10 ≡ status_of kept → ⊥
-    not_own own = true≢false (sym (run_status kept) ∙ ap is_run_status (sym own))
+    not_own : (found : Outcome) → 10 ≡ run_status found kept → ⊥
+    not_own found own = true≢false (sym (run_status_is found kept) ∙ ap is_run_status (sym own))
 
     with_races : (races : List Race) → OfJob files asked (FindsIn files hosts kept (Raced races)) → (10 ≡ status_of kept) ⊎ IsTen 10 (status_of kept) (length races)
         → Appends sink.taken_before sink.taken_after (race_text kept races) → RacedWhole files hosts sink asked kept
-    with_races races cause (inl own) text = absurd (not_own own)
+    with_races races cause (inl own) text = absurd (not_own (Raced races) own)
     with_races races cause (inr ten) text = record {
       races = races;
       cause = cause;
@@ -379,24 +449,26 @@ raced files hosts sink asked kept answer (inl told) is =
     by_found (TooLong of) cause e text = absurd (omega (arith, e))
     by_found (NotRead read_fault) cause e text = absurd (omega (arith, e))
     by_found (NotVerified rule at) cause e text = absurd (omega (arith, e))
+    by_found (RulesRefused why line) cause e text = absurd (omega (arith, e))
     by_found (Accepted functions instructions) cause e text = absurd (omega (arith, e))
     by_found (Instrumented target) cause e text = absurd (omega (arith, e))
-    by_found Ran cause e text = absurd (not_own e)
-    by_found (Loaded seed size) cause e text = absurd (not_own e)
+    by_found Ran cause e text = absurd (not_own Ran e)
+    by_found (Loaded seed size) cause e text = absurd (not_own (Loaded seed size) e)
+    by_found (Hushed rules) cause e text = absurd (not_own (Hushed rules) e)
     by_found (Raced races) cause e text = with_races races cause (raced_as 10 (status_of kept) (length races) e) text
-    by_found (Traced violations) cause e text = absurd (not_own e)
+    by_found (Traced violations) cause e text = absurd (not_own (Traced violations) e)
 
 -- 0, 1, 5, 6 and 10: a run of which the whole text was put; 0 also: a program was accepted, or its target code made
 pub run_cause : (files : FilesSeen) (hosts : HostTable) (sink : SinkSeen) (asked : Option Job) (kept : RunRecord) (answer : ℕ)
     → Answers files hosts sink asked kept answer → RunCause files hosts sink asked kept answer
 run_cause files hosts sink asked kept answer answers = record {
   clean = clean files hosts sink asked kept answer answers;
-  violated = λ is. run_with files hosts sink asked kept answer 1 (has_violations kept) answers is (omega arith) (λ e. omega (arith, e)) refl
-      (some_at_1 (any_end is_no_memory kept) (any_end is_limit kept) (any_end is_trap kept) (has_violations kept) 1 refl);
-  trapped = λ is. run_with files hosts sink asked kept answer 5 (any_end is_trap kept) answers is (omega arith) (λ e. omega (arith, e)) refl
-      (trap_at_5 (any_end is_no_memory kept) (any_end is_limit kept) (any_end is_trap kept) (has_violations kept) 5 refl);
-  limited = λ is. run_with files hosts sink asked kept answer 6 (any_end is_limit kept) answers is (omega arith) (λ e. omega (arith, e)) refl
-      (limit_at_6 (any_end is_no_memory kept) (any_end is_limit kept) (any_end is_trap kept) (has_violations kept) 6 refl);
+  violated = λ is. run_with files hosts sink asked kept answer 1 (λ found. tells_violation found kept) answers is (omega arith) (λ e. omega (arith, e)) refl
+      (λ found. some_at_1 (any_end is_no_memory kept) (any_end is_limit kept) (any_end is_trap kept) (tells_violation found kept) 1 refl);
+  trapped = λ is. run_with files hosts sink asked kept answer 5 (λ found. any_end is_trap kept) answers is (omega arith) (λ e. omega (arith, e)) refl
+      (λ found. trap_at_5 (any_end is_no_memory kept) (any_end is_limit kept) (any_end is_trap kept) (tells_violation found kept) 5 refl);
+  limited = λ is. run_with files hosts sink asked kept answer 6 (λ found. any_end is_limit kept) answers is (omega arith) (λ e. omega (arith, e)) refl
+      (λ found. limit_at_6 (any_end is_no_memory kept) (any_end is_limit kept) (any_end is_trap kept) (tells_violation found kept) 6 refl);
   raced = raced files hosts sink asked kept answer answers;
 }
 
@@ -407,29 +479,31 @@ memory_cause files hosts sink asked kept answer (inr out) is = inl (record { not
 memory_cause files hosts sink asked kept answer (inl told) is = by_puts told.puts
   where
     a_run : (found : Outcome) → TellsRun found → OfJob files asked (FindsIn files hosts kept found) → answer ≡ status_for found kept
-        → Appends sink.taken_before sink.taken_after (text_for found kept) → RanWith files hosts sink asked kept answer (any_end is_no_memory kept)
+        → Appends sink.taken_before sink.taken_after (text_for found kept) → RanWith files hosts sink asked kept answer (λ found. any_end is_no_memory kept)
     a_run found tells cause e text = record {
       run = whole_run files hosts sink asked kept answer found tells cause e text;
-      shown = memory_at_9 (any_end is_no_memory kept) (any_end is_limit kept) (any_end is_trap kept) (has_violations kept) answer is
+      shown = memory_at_9 (any_end is_no_memory kept) (any_end is_limit kept) (any_end is_trap kept) (tells_violation found kept) answer is
           (told_own found kept answer tells e (λ ten. omega (arith, is, ten)));
     }
 
     by_found : (found : Outcome) → HasCause files hosts asked kept found → answer ≡ status_for found kept
-        → Appends sink.taken_before sink.taken_after (text_for found kept) → RanWith files hosts sink asked kept answer (any_end is_no_memory kept)
+        → Appends sink.taken_before sink.taken_after (text_for found kept) → RanWith files hosts sink asked kept answer (λ found. any_end is_no_memory kept)
     by_found Usage cause e text = absurd (omega (arith, e, is))
     by_found (FileFault of) cause e text = absurd (omega (arith, e, is))
     by_found (TooLong of) cause e text = absurd (omega (arith, e, is))
     by_found (NotRead read_fault) cause e text = absurd (omega (arith, e, is))
     by_found (NotVerified rule at) cause e text = absurd (omega (arith, e, is))
+    by_found (RulesRefused why line) cause e text = absurd (omega (arith, e, is))
     by_found (Accepted functions instructions) cause e text = absurd (omega (arith, e, is))
     by_found (Instrumented target) cause e text = absurd (omega (arith, e, is))
     by_found Ran cause e text = a_run Ran tt cause e text
     by_found (Loaded seed size) cause e text = a_run (Loaded seed size) tt cause e text
+    by_found (Hushed rules) cause e text = a_run (Hushed rules) tt cause e text
     by_found (Raced races) cause e text = a_run (Raced races) tt cause e text
     by_found (Traced violations) cause e text = a_run (Traced violations) tt cause e text
 
     by_puts : Puts sink (text_for told.found kept) (status_for told.found kept) answer
-        → PutNothing files hosts sink asked kept ⊎ RanWith files hosts sink asked kept answer (any_end is_no_memory kept)
+        → PutNothing files hosts sink asked kept ⊎ RanWith files hosts sink asked kept answer (λ found. any_end is_no_memory kept)
     by_puts (whole e text) = inr (by_found told.found told.cause e text)
     by_puts (failed e rose prefix) = absurd (omega (arith, e, is))
     by_puts (no_memory e keeps) = inl (record { nothing = keeps; record_kept = left files hosts asked kept told.found told.cause })

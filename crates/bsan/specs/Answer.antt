@@ -1,5 +1,5 @@
 -- What the top call answers: what the work found, why, with which text and status, and the record.
-use Rattle.std.specs.Prelude.{◌≡◌, ◌⊎◌, ℕ, List, length, Option, Some, None, IsSomeAnd}
+use Rattle.std.specs.Prelude.{◌≡◌, ◌⊎◌, ℕ, List, length, Option, Some, None, IfSome, IsSomeAnd}
 use Rattle.std.specs.List.{sum_by}
 use Rattle.std.specs.Io.KnownBytes.{Keeps}
 use Rattle.command_words.specs.Jobs.{Job, default_settings, on_one_thread}
@@ -29,15 +29,18 @@ use Rattle.race_check.specs.declared.race.Race.{Race}
 use Rattle.explain.specs.Explanations.{AreExplained, AreHistories}
 use Rattle.explain.specs.Text.{explain_text}
 use Rattle.explain.specs.declared.explained.Explained.{Explained}
+use Rattle.suppress.specs.Held.{held_text, held_status}
+use Rattle.suppress.specs.declared.rules.Rules.{Rules}
 use Rattle.workload.specs.Made.{made}
-use Rattle.bsan.specs.Words.{Text, Origin, origin_of, input_in, IsFrom, HasLimits, HasSize}
+use Rattle.bsan.specs.Words.{Text, Origin, origin_of, input_in, rules_in, IsFrom, HasLimits, HasSize}
 use Rattle.bsan.specs.Words.Origin.{InFile, Generated}
 use Rattle.bsan.specs.Seen.{FilesSeen, SinkSeen, Failed, WasTooLong, WasRead, Puts}
-use Rattle.bsan.specs.Lines.{usage_text, file_fault_line, too_long_line, fault_line, rule_line, load_text, accepted_line}
+use Rattle.bsan.specs.Lines.{usage_text, file_fault_line, too_long_line, fault_line, rule_line, rules_line, load_text, accepted_line}
 use Rattle.bsan.specs.Runs.{IsScheduledRun, IsNativeRun, IsOfRun}
+use Rattle.bsan.specs.Rules.{AreRulesIn, IsRefusedAt, OfRead}
 use Rattle.bsan.specs.declared.outcome.Role.TheVariants as role
 use Rattle.bsan.specs.declared.outcome.Outcome.{Outcome}
-use Rattle.bsan.specs.declared.outcome.Outcome.TheVariants.{Usage, FileFault, TooLong, NotRead, NotVerified, Accepted, Instrumented, Ran, Loaded, Raced, Traced}
+use Rattle.bsan.specs.declared.outcome.Outcome.TheVariants.{Usage, FileFault, TooLong, NotRead, NotVerified, RulesRefused, Accepted, Instrumented, Ran, Loaded, Hushed, Raced, Traced}
 
 -- what was found is what the verifier told
 abbrev pub IsBrokenRule : VerifyFault → Outcome → Type 0
@@ -65,10 +68,12 @@ status_for (FileFault of) kept = 7
 status_for (TooLong of) kept = 7
 status_for (NotRead read_fault) kept = 3
 status_for (NotVerified rule at) kept = 4
+status_for (RulesRefused why line) kept = 12
 status_for (Accepted functions instructions) kept = 0
 status_for (Instrumented target) kept = 0
 status_for Ran kept = status_of kept
 status_for (Loaded seed size) kept = status_of kept
+status_for (Hushed rules) kept = held_status rules kept
 status_for (Raced races) kept = race_status kept races
 status_for (Traced violations) kept = status_of kept
 
@@ -79,10 +84,12 @@ text_for (FileFault of) kept = file_fault_line of
 text_for (TooLong of) kept = too_long_line of
 text_for (NotRead read_fault) kept = fault_line read_fault
 text_for (NotVerified rule at) kept = rule_line rule at
+text_for (RulesRefused why line) kept = rules_line why line
 text_for (Accepted functions instructions) kept = accepted_line functions instructions
 text_for (Instrumented target) kept = target_text target
 text_for Ran kept = text_of kept
 text_for (Loaded seed size) kept = load_text seed size kept
+text_for (Hushed rules) kept = held_text rules kept
 text_for (Raced races) kept = race_text kept races
 text_for (Traced violations) kept = explain_text kept violations
 
@@ -90,6 +97,7 @@ text_for (Traced violations) kept = explain_text kept violations
 abbrev pub CanBeTold : Outcome → RunRecord → Type 0
 CanBeTold Ran kept = IsReportable kept
 CanBeTold (Loaded seed size) kept = IsReportable kept
+CanBeTold (Hushed rules) kept = IsReportable kept
 CanBeTold (Raced races) kept = HasDistinctStamps kept × AreFirstRaces (merged kept) races
 CanBeTold (Traced violations) kept = AreHistories kept.allocs × HasDistinctStamps kept × AreExplained kept violations
 CanBeTold found kept = Unit {0}
@@ -151,10 +159,20 @@ IsLoaded files hosts (Generated run) verified = (verified.program ≡ made run.s
 -- why it was not, or is not
 abbrev pub IsUnloaded : FilesSeen → HostTable → Origin → Outcome → Type 0
 IsUnloaded files hosts origin (FileFault role.Program) = IsFrom (λ file. Failed files file) origin
+IsUnloaded files hosts origin (FileFault role.Rules) = ⊥
 IsUnloaded files hosts origin (FileFault role.Input) = ⊥
 IsUnloaded files hosts origin (TooLong role.Program) = IsFrom (λ file. WasTooLong files file most_bytes) origin
+IsUnloaded files hosts origin (TooLong role.Rules) = ⊥
 IsUnloaded files hosts origin (TooLong role.Input) = ⊥
 IsUnloaded files hosts origin found = (text : List ℕ) × IsFrom (λ file. WasRead files file most_bytes text) origin × IsNoProgram hosts text found
+
+-- what was found is the rules that were read of a file, for this program
+abbrev pub AreHeldBy : FilesSeen → Program → Text → Outcome → Type 0
+AreHeldBy files program file found = (rules : Rules) × (found ≡ Hushed rules) × OfRead files file (λ text. AreRulesIn program text rules)
+
+-- where the job has a file with rules, rules for the program were read of it
+abbrev pub HasReadRules : FilesSeen → Program → Job → Type 0
+HasReadRules files program job = IfSome (rules_in job) (λ file. OfRead files file (λ text. (rules : Rules) × AreRulesIn program text rules))
 
 -- what a job finds in its accepted program with its input, and what record it leaves
 abbrev pub Serves : FilesSeen → HostTable → RunRecord → Outcome → Program → Job → Type 0
@@ -167,15 +185,22 @@ Serves files hosts kept found program (Run run) = (found ≡ Ran) × IsNativeRun
 Serves files hosts kept found program (Load run) =
     (found ≡ Loaded run.seed run.size) × IsNativeRun files hosts kept program default_settings
 Serves files hosts kept found program (Races run) = IsScheduledRun files hosts kept program run × IsRaced kept found
-Serves files hosts kept found program (Hush run) = ⊥
+Serves files hosts kept found program (Hush run) =
+    IsNativeRun files hosts kept program run.settings × AreHeldBy files program run.rules found
 Serves files hosts kept found program (Explain run) = IsScheduledRun files hosts kept program run × IsTraced kept found
 
 -- what a job finds in its program, which is accepted, and what record it leaves
 abbrev pub FindsIn : FilesSeen → HostTable → RunRecord → Outcome → Job → Program → Type 0
+FindsIn files hosts kept (FileFault role.Rules) job program =
+    IsAccepted program hosts × IsSomeAnd (rules_in job) (λ file. Failed files file) × (kept ≡ empty_record)
+FindsIn files hosts kept (TooLong role.Rules) job program =
+    IsAccepted program hosts × IsSomeAnd (rules_in job) (λ file. WasTooLong files file most_bytes) × (kept ≡ empty_record)
+FindsIn files hosts kept (RulesRefused why line) job program =
+    IsAccepted program hosts × IsSomeAnd (rules_in job) (λ file. OfRead files file (λ text. IsRefusedAt program text why line)) × (kept ≡ empty_record)
 FindsIn files hosts kept (FileFault role.Input) job program =
-    IsAccepted program hosts × IsSomeAnd (input_in job) (λ file. Failed files file) × (kept ≡ empty_record)
+    IsAccepted program hosts × IsSomeAnd (input_in job) (λ file. Failed files file) × (kept ≡ empty_record) × HasReadRules files program job
 FindsIn files hosts kept (TooLong role.Input) job program =
-    IsAccepted program hosts × IsSomeAnd (input_in job) (λ file. WasTooLong files file most_bytes) × (kept ≡ empty_record)
+    IsAccepted program hosts × IsSomeAnd (input_in job) (λ file. WasTooLong files file most_bytes) × (kept ≡ empty_record) × HasReadRules files program job
 FindsIn files hosts kept found job program = IsAccepted program hosts × Serves files hosts kept found program job
 
 -- why the work found this, and what record it left

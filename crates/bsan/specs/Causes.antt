@@ -3,7 +3,7 @@ use Rattle.std.specs.Prelude.{◌≡◌, ◌≢◌, ◌⊎◌, ◌≤◌, ℕ, B
 use Rattle.std.specs.List.{list_any, sum_by}
 use Rattle.std.specs.Io.KnownBytes.{Appends, Keeps}
 use Rattle.outside_io.specs.Counts.{Rose}
-use Rattle.command_words.specs.Jobs.{Job, Settings, LoadRun, ScheduledRun, default_settings, settings_in}
+use Rattle.command_words.specs.Jobs.{Job, HeldRun, Settings, LoadRun, ScheduledRun, default_settings, settings_in}
 use Rattle.command_words.specs.Jobs.Job.{Check, Instrument, Replay, Run, Load, Races, Hush, Explain}
 use Rattle.core_model.specs.Kept.{Replayed}
 use Rattle.ir_ast.specs.Programs.{function_instructions}
@@ -27,13 +27,17 @@ use Rattle.race_check.specs.declared.race.Race.{Race}
 use Rattle.explain.specs.Explanations.{AreExplained}
 use Rattle.explain.specs.Text.{explain_text}
 use Rattle.explain.specs.declared.explained.Explained.{Explained}
+use Rattle.suppress.specs.Held.{held_text, held_status, is_any_shown}
+use Rattle.suppress.specs.declared.rules.Rules.{Rules}
 use Rattle.source_sem.specs.Records.{IsRightRecord}
-use Rattle.bsan.specs.Words.{Text, origin_of, input_in, IsFrom}
+use Rattle.bsan.specs.Words.{Text, origin_of, input_in, rules_in, IsFrom}
 use Rattle.bsan.specs.Seen.{FilesSeen, SinkSeen, Failed, IsFault}
 use Rattle.bsan.specs.Lines.{accepted_line, load_text}
+use Rattle.bsan.specs.Rules.{AreRulesIn, IsRefusedAt, OfRead}
 use Rattle.bsan.specs.Answer.{OfFile, OfText, OfProgram, OfJob, HasProgram, FindsIn, IsEmptyOrRight, text_for, status_for}
+use Rattle.bsan.specs.declared.outcome.LineFault.{LineFault}
 use Rattle.bsan.specs.declared.outcome.Outcome.{Outcome}
-use Rattle.bsan.specs.declared.outcome.Outcome.TheVariants.{Accepted, Instrumented, Ran, Loaded, Raced, Traced}
+use Rattle.bsan.specs.declared.outcome.Outcome.TheVariants.{Accepted, Instrumented, Ran, Loaded, Hushed, Raced, Traced}
 
 -- the text was not put whole, or memory ran out
 abbrev pub IsCutShort : ℕ → Type 0
@@ -81,15 +85,51 @@ pub record NotVerifiedCause (files : FilesSeen) (hosts : HostTable) (asked : Opt
   pub only : answer ≡ 4 → OfText files asked (OfProgram (IsBrokenFirst hosts))
   pub always : TellsText files asked (OfProgram (IsBroken hosts)) → (answer ≡ 4) ⊎ ComesBetween files asked answer
 
--- the program is accepted, and the file with the input was not read
-pub record HasUnreadInput (files : FilesSeen) (hosts : HostTable) (job : Job) (program : Program) : Type 0 where
-  pub accepted : IsAccepted program hosts
-  pub unread : IsSomeAnd (input_in job) (λ file. IsFault files file)
+-- a job is asked for, and P holds of it and of its program, whose text is told
+pub record TellsJob (files : FilesSeen) (asked : Option Job) (P : Job → Program → Type 0) : Type 0 where
+  pub job : Job
+  pub is : asked ≡ Some job
+  pub program : Program
+  pub has : HasProgram (λ file text. files.content file ≡ Some text) (origin_of job) program
+  pub holds : P job program
 
--- 7: only where the program's file was not read, or the input's, whose program was accepted
+-- the content of the file is told, and P holds of it
+abbrev pub OfTold : FilesSeen → Text → (List ℕ → Type 0) → Type 0
+OfTold files file P = (text : List ℕ) × (files.content file ≡ Some text) × P text
+
+-- a line of the text is refused
+abbrev pub HasRefusedLine : Program → List ℕ → Type 0
+HasRefusedLine program text = (why : LineFault) × (line : ℕ) × IsRefusedAt program text why line
+
+-- the program is accepted, and a line of the rules is refused: of those that were read; of those that are told
+pub record HasRefusedRules (files : FilesSeen) (hosts : HostTable) (job : Job) (program : Program) : Type 0 where
+  pub accepted : IsAccepted program hosts
+  pub refused : IsSomeAnd (rules_in job) (λ file. OfRead files file (HasRefusedLine program))
+
+pub record TellsRefusedRules (files : FilesSeen) (hosts : HostTable) (job : Job) (program : Program) : Type 0 where
+  pub accepted : IsAccepted program hosts
+  pub refused : IsSomeAnd (rules_in job) (λ file. OfTold files file (HasRefusedLine program))
+
+-- the file with the rules was not read
+abbrev pub AreRulesUnread : FilesSeen → Option Job → Type 0
+AreRulesUnread files asked = IsSomeAnd asked (λ job. IsSomeAnd (rules_in job) (λ file. IsFault files file))
+
+-- 12: exactly where the program is accepted and a line of the rules is refused, unless one of the two files was not read
+pub record RulesCause (files : FilesSeen) (hosts : HostTable) (asked : Option Job) (answer : ℕ) : Type 0 where
+  pub only : answer ≡ 12 → OfJob files asked (HasRefusedRules files hosts)
+  pub always : TellsJob files asked (TellsRefusedRules files hosts)
+      → (answer ≡ 12) ⊎ ((answer ≡ 7) × AreRulesUnread files asked) ⊎ ComesBetween files asked answer
+
+-- the program is accepted, and the file with the rules, or that with the input, was not read
+pub record HasUnreadFile (files : FilesSeen) (hosts : HostTable) (job : Job) (program : Program) : Type 0 where
+  pub accepted : IsAccepted program hosts
+  pub unread : IsSomeAnd (rules_in job) (λ file. IsFault files file)
+      ⊎ IsSomeAnd (input_in job) (λ file. IsFault files file)
+
+-- 7: only where the program's file was not read, or that of the rules or the input, whose program was accepted
 abbrev pub ReadCause : FilesSeen → HostTable → Option Job → ℕ → Type 0
 ReadCause files hosts asked answer = answer ≡ 7
-    → IsUnread files asked ⊎ OfJob files asked (HasUnreadInput files hosts)
+    → IsUnread files asked ⊎ OfJob files asked (HasUnreadFile files hosts)
 
 -- 8: only where the sink failed
 abbrev pub PutCause : SinkSeen → ℕ → Type 0
@@ -99,6 +139,7 @@ PutCause sink answer = answer ≡ 8 → Rose sink.faults_before sink.faults_afte
 abbrev pub TellsRun : Outcome → Type 0
 TellsRun Ran = Unit {0}
 TellsRun (Loaded seed size) = Unit {0}
+TellsRun (Hushed rules) = Unit {0}
 TellsRun (Raced races) = Unit {0}
 TellsRun (Traced violations) = Unit {0}
 TellsRun found = ⊥
@@ -128,10 +169,16 @@ pub record InstrumentedWhole (files : FilesSeen) (hosts : HostTable) (sink : Sin
 abbrev pub has_violations : RunRecord → Bool
 has_violations kept = list_any has_violation kept.allocs
 
--- a run, of which the whole text was put, and of whose record this holds
-pub record RanWith (files : FilesSeen) (hosts : HostTable) (sink : SinkSeen) (asked : Option Job) (kept : RunRecord) (answer : ℕ) (holds : Bool) : Type 0 where
+-- whether what was found tells of a violation: of the first one of an allocation, and where rules hold back reports, of one that
+-- they do not hold
+abbrev pub tells_violation : Outcome → RunRecord → Bool
+tells_violation (Hushed rules) kept = is_any_shown rules kept.allocs
+tells_violation found kept = has_violations kept
+
+-- a run, of which the whole text was put, and of which this holds
+pub record RanWith (files : FilesSeen) (hosts : HostTable) (sink : SinkSeen) (asked : Option Job) (kept : RunRecord) (answer : ℕ) (holds : Outcome → Bool) : Type 0 where
   pub run : RanWhole files hosts sink asked kept answer
-  pub shown : holds ≡ true
+  pub shown : holds run.found ≡ true
 
 -- a run with data races, all of whose lines were put, and neither a trap nor a limit that was reached
 pub record RacedWhole (files : FilesSeen) (hosts : HostTable) (sink : SinkSeen) (asked : Option Job) (kept : RunRecord) : Type 0 where
@@ -141,15 +188,15 @@ pub record RacedWhole (files : FilesSeen) (hosts : HostTable) (sink : SinkSeen) 
   pub low : status_of kept ≤ 1
   pub text : Appends sink.taken_before sink.taken_after (race_text kept races)
 
--- 0: only after a run without violations, of which the whole text was put, or where a program was accepted or its target code
--- made, and that was put; 1, 5 and 6: only after a run with violations, with a trap, or with a limit that was reached,
+-- 0: only after a run that tells of no violation, of which the whole text was put, or where a program was accepted or its target code
+-- made, and that was put; 1, 5 and 6: only after a run that tells of one, with a trap, or with a limit that was reached,
 -- of which the whole text was put; 10: only after a run with data races, whose lines were put
 pub record RunCause (files : FilesSeen) (hosts : HostTable) (sink : SinkSeen) (asked : Option Job) (kept : RunRecord) (answer : ℕ) : Type 0 where
-  pub clean : answer ≡ 0 → RanWith files hosts sink asked kept answer (not (has_violations kept))
+  pub clean : answer ≡ 0 → RanWith files hosts sink asked kept answer (λ found. not (tells_violation found kept))
       ⊎ AcceptedWhole files hosts sink asked kept ⊎ InstrumentedWhole files hosts sink asked kept
-  pub violated : answer ≡ 1 → RanWith files hosts sink asked kept answer (has_violations kept)
-  pub trapped : answer ≡ 5 → RanWith files hosts sink asked kept answer (any_end is_trap kept)
-  pub limited : answer ≡ 6 → RanWith files hosts sink asked kept answer (any_end is_limit kept)
+  pub violated : answer ≡ 1 → RanWith files hosts sink asked kept answer (λ found. tells_violation found kept)
+  pub trapped : answer ≡ 5 → RanWith files hosts sink asked kept answer (λ found. any_end is_trap kept)
+  pub limited : answer ≡ 6 → RanWith files hosts sink asked kept answer (λ found. any_end is_limit kept)
   pub raced : answer ≡ 10 → RacedWhole files hosts sink asked kept
 
 -- nothing was put, and the record is empty or right
@@ -160,11 +207,11 @@ pub record PutNothing (files : FilesSeen) (hosts : HostTable) (sink : SinkSeen) 
 -- 9: nothing was put, or the whole text of a run in which a thread found no memory
 abbrev pub MemoryCause : FilesSeen → HostTable → SinkSeen → Option Job → RunRecord → ℕ → Type 0
 MemoryCause files hosts sink asked kept answer = answer ≡ 9
-    → PutNothing files hosts sink asked kept ⊎ RanWith files hosts sink asked kept answer (any_end is_no_memory kept)
+    → PutNothing files hosts sink asked kept ⊎ RanWith files hosts sink asked kept answer (λ found. any_end is_no_memory kept)
 
 -- a status without a run leaves no record
 abbrev pub LeavesNone : RunRecord → ℕ → Type 0
-LeavesNone kept answer = ((answer ≡ 2) ⊎ (answer ≡ 3) ⊎ (answer ≡ 4) ⊎ (answer ≡ 7)) → kept ≡ empty_record
+LeavesNone kept answer = ((answer ≡ 2) ⊎ (answer ≡ 3) ⊎ (answer ≡ 4) ⊎ (answer ≡ 7) ⊎ (answer ≡ 12)) → kept ≡ empty_record
 
 -- the file's content is told and within its limit, and no read of it fails
 pub record IsGiven (files : FilesSeen) (file : Text) (bytes : List ℕ) : Type 0 where
@@ -180,12 +227,20 @@ IsGivenInput files (Some file) input = IsGiven files file input
 abbrev pub HasInput : FilesSeen → List ℕ → Job → Type 0
 HasInput files input job = IfSome (settings_in job) (λ settings. IsGivenInput files settings.input input)
 
+-- the same of a file with rules for the program
+abbrev pub AreRulesGiven : FilesSeen → Program → Text → Type 0
+AreRulesGiven files program file = (text : List ℕ) × IsGiven files file text × (rules : Rules) × AreRulesIn program text rules
+
+abbrev pub HasRules : FilesSeen → Program → Job → Type 0
+HasRules files program job = IfSome (rules_in job) (λ file. AreRulesGiven files program file)
+
 -- this job is asked for, its files are told, its program is accepted, and neither they nor the sink fail
 pub record AllIsWell (files : FilesSeen) (hosts : HostTable) (sink : SinkSeen) (asked : Option Job) (job : Job) (program : Program) (input : List ℕ) : Type 0 where
   pub is : asked ≡ Some job
   pub has : HasProgram (IsGiven files) (origin_of job) program
   pub accepted : IsAccepted program hosts
   pub has_input : HasInput files input job
+  pub has_rules : HasRules files program job
   pub no_put_fault : ¬ Rose sink.faults_before sink.faults_after
 
 -- the run's status, with the whole report, and the record of the program's run with this input
@@ -205,6 +260,14 @@ pub record IsLoadTold (hosts : HostTable) (sink : SinkSeen) (kept : RunRecord) (
   pub right : IsRightRecord program [] hosts default_settings.limits kept
   pub status : answer ≡ status_of kept
   pub text : Appends sink.taken_before sink.taken_after (load_text run.seed run.size kept)
+
+-- the run's status by these rules, with the report without what they hold, and a right record of the program with this input
+pub record IsHushed (files : FilesSeen) (hosts : HostTable) (sink : SinkSeen) (kept : RunRecord) (program : Program) (input : List ℕ) (run : HeldRun) (answer : ℕ) : Type 0 where
+  pub right : IsRightRecord program input hosts run.settings.limits kept
+  pub rules : Rules
+  pub are : OfTold files run.rules (λ text. AreRulesIn program text rules)
+  pub status : answer ≡ held_status rules kept
+  pub text : Appends sink.taken_before sink.taken_after (held_text rules kept)
 
 -- the lines of the run's races, with their status, and the record of the program's run with this input
 pub record IsChecked (hosts : HostTable) (sink : SinkSeen) (kept : RunRecord) (program : Program) (input : List ℕ) (run : ScheduledRun) (answer : ℕ) : Type 0 where
@@ -233,17 +296,17 @@ pub record IsTranslated (hosts : HostTable) (sink : SinkSeen) (program : Program
   pub status : answer ≡ 0
   pub text : Appends sink.taken_before sink.taken_after (target_text (translation hosts.entries program))
 
-abbrev pub IsServed : HostTable → SinkSeen → RunRecord → Program → List ℕ → ℕ → Job → Type 0
-IsServed hosts sink kept program input answer (Check file) = IsCounted sink program answer
-IsServed hosts sink kept program input answer (Instrument file) = IsTranslated hosts sink program answer
-IsServed hosts sink kept program input answer (Replay run) = IsReported hosts sink kept program input run answer
-IsServed hosts sink kept program input answer (Run run) = IsRunRight hosts sink kept program input run.settings answer
-IsServed hosts sink kept program input answer (Load run) = IsLoadTold hosts sink kept program run answer
-IsServed hosts sink kept program input answer (Races run) = IsChecked hosts sink kept program input run answer
-IsServed hosts sink kept program input answer (Hush run) = ⊥
-IsServed hosts sink kept program input answer (Explain run) = IsExplained hosts sink kept program input run answer
+abbrev pub IsServed : FilesSeen → HostTable → SinkSeen → RunRecord → Program → List ℕ → ℕ → Job → Type 0
+IsServed files hosts sink kept program input answer (Check file) = IsCounted sink program answer
+IsServed files hosts sink kept program input answer (Instrument file) = IsTranslated hosts sink program answer
+IsServed files hosts sink kept program input answer (Replay run) = IsReported hosts sink kept program input run answer
+IsServed files hosts sink kept program input answer (Run run) = IsRunRight hosts sink kept program input run.settings answer
+IsServed files hosts sink kept program input answer (Load run) = IsLoadTold hosts sink kept program run answer
+IsServed files hosts sink kept program input answer (Races run) = IsChecked hosts sink kept program input run answer
+IsServed files hosts sink kept program input answer (Hush run) = IsHushed files hosts sink kept program input run answer
+IsServed files hosts sink kept program input answer (Explain run) = IsExplained hosts sink kept program input run answer
 
 -- where all is well, the job is served, or the call is out of memory
 abbrev pub IsComplete : FilesSeen → HostTable → SinkSeen → Option Job → RunRecord → ℕ → Type 0
 IsComplete files hosts sink asked kept answer = (job : Job) (program : Program) (input : List ℕ)
-    → AllIsWell files hosts sink asked job program input → IsServed hosts sink kept program input answer job ⊎ (answer ≡ 9)
+    → AllIsWell files hosts sink asked job program input → IsServed files hosts sink kept program input answer job ⊎ (answer ≡ 9)

@@ -2,5 +2,6 @@ pub mod Words
 pub mod Seen
 pub mod Lines
 pub mod Runs
+pub mod Rules
 pub mod Answer
 pub mod Causes

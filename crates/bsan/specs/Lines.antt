@@ -7,8 +7,10 @@ use Rattle.ir_rules.specs.declared.rule.Rule.{Rule}
 use Rattle.ir_rules.specs.Least.{name_of}
 use Rattle.history.specs.declared.record.RunRecord.{RunRecord}
 use Rattle.report.specs.Report.{part_of}
+use Rattle.bsan.specs.declared.outcome.LineFault.{LineFault}
+use Rattle.bsan.specs.declared.outcome.LineFault.TheVariants.{BadLine, NoFunction}
 use Rattle.bsan.specs.declared.outcome.Role.{Role}
-use Rattle.bsan.specs.declared.outcome.Role.TheVariants.{Program, Input}
+use Rattle.bsan.specs.declared.outcome.Role.TheVariants.{Program, Rules, Input}
 
 abbrev pub usage_text : List ℕ
 usage_text =
@@ -17,6 +19,7 @@ usage_text =
 
 abbrev pub role_text : Role → List ℕ
 role_text Program = codes "program"
+role_text Rules = codes "rules"
 role_text Input = codes "input"
 
 -- read fault: ROLE
@@ -34,6 +37,15 @@ fault_line fault = codes "not read: " ++ (fault_text fault ++ 10 ∷ [])
 -- not verified: RULE at PLACE
 abbrev pub rule_line : Rule → ℕ → List ℕ
 rule_line rule at = codes "not verified: " ++ (name_of rule ++ (codes " at " ++ (decimal at ++ 10 ∷ [])))
+
+-- why a line of rules is refused
+abbrev pub line_fault_text : LineFault → List ℕ
+line_fault_text BadLine = codes "BadLine"
+line_fault_text NoFunction = codes "NoFunction"
+
+-- rules refused: FAULT at line LINE
+abbrev pub rules_line : LineFault → ℕ → List ℕ
+rules_line why line = codes "rules refused: " ++ (line_fault_text why ++ (codes " at line " ++ (decimal line ++ 10 ∷ [])))
 
 -- load SEED SIZE, with the summary of the run and its status
 abbrev pub load_text : ℕ → ℕ → RunRecord → List ℕ

@@ -1,5 +1,5 @@
 -- The words of a command line, and the files that they name.
-use Rattle.std.specs.Prelude.{ℕ, ◌≤◌, List, Option, IfSome}
+use Rattle.std.specs.Prelude.{ℕ, ◌≤◌, List, Option, Some, None, IfSome}
 use Rattle.std.specs.Option.{option_and_then}
 use Rattle.command_words.specs.Jobs.{Job, LoadRun, settings_in}
 use Rattle.command_words.specs.Jobs.Job.{Check, Instrument, Replay, Run, Load, Races, Hush, Explain}
@@ -32,6 +32,11 @@ IsFrom P (Generated run) = ⊥
 -- the file with the input, where the job has a run and names one
 abbrev pub input_in : Job → Option Text
 input_in job = option_and_then (λ settings. settings.input) (settings_in job)
+
+-- the file with the rules that hold back reports, where the job has one
+abbrev pub rules_in : Job → Option Text
+rules_in (Hush run) = Some run.rules
+rules_in job = None
 
 -- the limits of a run are in their ranges
 abbrev pub HasLimits : Job → Type 0

@@ -2,24 +2,28 @@
 //!
 //! It reads the words of a command line, the program's file and the program in its text, and verifies
 //! the program. Where that is asked for it reads its input and runs it into a record. It puts one text: the report of
-//! that record, the data races of its run, the steps that led to its violations, how large the program is, its target
+//! that record, the same without what rules hold back, the data races of its run, the steps that led to its violations, how large the program is, its target
 //! code, or why there is none.
 //!
 //! `bsan_alone` serves the commands that need one native thread: `check`, `instrument`, `solo`, `replay`,
 //! `races` and `explain`.
-//! `bsan` serves `run` and `load` besides, which have a native thread for each thread of the program.
+//! `bsan` serves `run`, `load` and `hush` besides, which have a native thread for each thread of the program.
 #![tactic(auto)]
 
 mod generated;
 mod hush;
+mod laws;
 mod lines;
 mod load;
 mod native;
 mod outcome;
 mod top;
 
+pub use laws::the_others_are_held;
 pub use native::bsan;
 pub use top::bsan_alone;
 
+#[cfg(test)]
+mod hush_tests;
 #[cfg(test)]
 mod tests;

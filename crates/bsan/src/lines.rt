@@ -3,7 +3,7 @@ ghost use Rattle.std.specs.Prelude.{◌≡◌, IfOk};
 ghost use Rattle.report.specs.Report.{IsReportable};
 ghost use Rattle.bsan.specs.Lines as lines;
 
-use crate::outcome::Role;
+use crate::outcome::{LineFault, Role};
 use bsan_ids::NoMemory;
 use ir_reader::ReadFault;
 use ir_rules::Rule;
@@ -22,6 +22,7 @@ fn role_name(role: Role) -> &'static str
 {
     match role {
         Role::Program => "program",
+        Role::Rules => "rules",
         Role::Input => "input",
     }
 }
@@ -74,6 +75,29 @@ pub(crate) fn rule_line(alloc: Global, rule: Rule, at: u32) -> Result<Vec<u8>, N
 {
     let line = format!(in alloc; "not verified: {rule} at {at}\n")?;
     Ok(Vec::from_slice(alloc, line.as_bytes())?)
+}
+
+/// Why a line is refused, in a word.
+fn line_fault_name(fault: LineFault) -> &'static str
+    ensures { result.now ≡ lines.line_fault_text fault }
+{
+    match fault {
+        LineFault::BadLine => "BadLine",
+        LineFault::NoFunction => "NoFunction",
+    }
+}
+
+/// The line of rules that are refused: `rules refused: FAULT at line LINE`.
+///
+/// # Errors
+///
+/// `NoMemory`: out of memory.
+pub(crate) fn rules_line(alloc: Global, fault: LineFault, line: u32) -> Result<Vec<u8>, NoMemory>
+    ensures { IfOk result (λ text. text.items ≡ lines.rules_line fault line) }
+{
+    let name = line_fault_name(fault);
+    let text = format!(in alloc; "rules refused: {name} at line {line}\n")?;
+    Ok(Vec::from_slice(alloc, text.as_bytes())?)
 }
 
 /// The two lines of a run of a generated program: `load SEED SIZE: ` with the summary of its report, and its status.

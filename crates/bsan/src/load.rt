@@ -20,7 +20,11 @@ use std::alloc::Global;
 const FILE_LIMIT: u64 = 1_048_576;
 
 /// Reads a file, which is to have at most 1,048,576 bytes.
-fn read_file<S: Files>(files: &mut S, name: &str, bytes: &mut Vec<u8>) -> Result<(), FileFault>
+pub(crate) fn read_file<S: Files>(
+    files: &mut S,
+    name: &str,
+    bytes: &mut Vec<u8>,
+) -> Result<(), FileFault>
     ensures read { OnOk result (WasRead
         (seen_files (S.content files.old) (S.faults files.old) (S.faults files.new) (S.overlong files.old) (S.overlong files.new))
         name.now most_bytes bytes.new.items) }

@@ -11,7 +11,7 @@ ghost use Rattle.bsan.specs.Answer.{FindsIn, HasCause, Answers, IsAskedJob, IsLo
 ghost use Rattle.bsan.specs.Runs.{IsNativeRun};
 ghost use Rattle.bsan.specs.Seen.{seen_files, seen_sink, Failed, WasTooLong};
 ghost use Rattle.bsan.specs.Words.{HasLimits, HasSize, origin_of};
-ghost use Rattle.bsan.specs.Causes.{UsageCause, ReadCause, NotReadCause, NotVerifiedCause, PutCause, RunCause, MemoryCause};
+ghost use Rattle.bsan.specs.Causes.{UsageCause, ReadCause, NotReadCause, NotVerifiedCause, RulesCause, PutCause, RunCause, MemoryCause};
 ghost use Rattle.bsan.specs.Causes.{LeavesNone, IsComplete};
 
 use crate::generated::generate;
@@ -279,20 +279,32 @@ fn answer<R: Threads + Wait + Sync, S: Files, K: Sink, G: Gate + Sync>(
 
 /// Serves `run FILE`, which runs the program of the file with a native thread for each thread that it starts, and puts
 /// the report of that run; `load SEED SIZE`, which runs the program that the number SEED gives so, whose four workers each
-/// make SIZE stores; and all commands of [`bsan_alone`], which it calls for them. `run` takes the same options. `load`
+/// make SIZE stores; `hush FILE RULES`, which runs a program as `run` does and puts its report without the violations that the
+/// rules of a file hold back; and all commands of [`bsan_alone`], which it calls for them. `run` and `hush` take the same options. `load`
 /// takes none: its run has no input and the limits that they have without a value. After `load` the text of a run is the line
-/// `load SEED SIZE: ` with the summary of the report, and the line of its status. Both may wait for their threads. The `gate`
+/// `load SEED SIZE: ` with the summary of the report, and the line of its status. All of them may wait for their threads. The `gate`
 /// is told where they have come to.
 ///
 /// What is done in which order, what is put and what is answered is as for `bsan_alone`: a run on native threads
 /// stands where a run on one does. `load` reads no file, so its answer is none of 3, 4 and 7.
+///
+/// `hush` reads the rules after verifying and before the input. Their file may have up to 1,048,576 bytes, and has a rule a line:
+/// `hold CAUSE`, `hold CAUSE at N` or `hold CAUSE in @NAME`, where CAUSE is `any`, `denied`, `strongfree`, `stranger`, `freed` or
+/// `outofrange`, N the number of an instruction and NAME that of a function. Lines that are empty or begin with `;` are none. The
+/// report has a line for each first violation that no rule holds, counts these and behind `held` the others, and has the status
+/// of the run without the others. Of an allocation whose first violation is held no later one is shown. `hush` alone answers
+///
+/// | status | when | text |
+/// |---|---|---|
+/// | 7 | besides, a read of the rules' file failed, or it is too long | `read fault: rules`, `too long: rules` |
+/// | 12 | a line of the rules, the first such one, has none of the forms, or names a function that is not there | `rules refused: BadLine at line L`, `rules refused: NoFunction at line L`, lines counted from 1 |
 ///
 /// > For every accepted program and input, and however its threads interleave, each allocation's accesses, retags, protector ends and free form one history, ordered by stamps, that holds each thread's calls in program order and once; every reply and verdict is eager Tree Borrows' at that point; the printed reports are exactly the first violations; and the stamped steps merged are a run of the uninstrumented program.
 ///
 /// It claims this sentence where a run is made: memory may run out first. After a run `kept` is a right record, its
 /// erasure included, of the program that was read, with the input that was read and within the limits of the words; or of
 /// the program that SEED and SIZE give. After `run` the text that is put is the report of `kept`, whose violation lines are the
-/// first violations.
+/// first violations; after `hush` they are exactly those of them that the rules do not hold.
 pub fn bsan<R: Threads + Wait + Sync, S: Files, K: Sink, G: Gate + Sync>(
     rt: &R,
     alloc: Global,
@@ -310,7 +322,7 @@ pub fn bsan<R: Threads + Wait + Sync, S: Files, K: Sink, G: Gate + Sync>(
         (seen_sink (K.taken out.old) (K.taken out.new) (K.faults out.old) (K.faults out.new))
         (jobs.job_of (map string_bytes words.now)) kept.new result }
 
-    // 0: only after a run without violations, or where a program was accepted or its target code made.
+    // 0: only after a run without violations, those aside that rules hold, or where a program was accepted or its target code made.
     // 1, 5, 6, 10: only after a run with violations, with a trap, with a limit, with a data race. The whole text was put.
     ensures run { RunCause
         (seen_files (S.content files.old) (S.faults files.old) (S.faults files.new) (S.overlong files.old) (S.overlong files.new))
@@ -331,8 +343,13 @@ pub fn bsan<R: Threads + Wait + Sync, S: Files, K: Sink, G: Gate + Sync>(
         (seen_files (S.content files.old) (S.faults files.old) (S.faults files.new) (S.overlong files.old) (S.overlong files.new))
         hosts.now.table (jobs.job_of (map string_bytes words.now)) result }
 
+    // 12: exactly where the program is accepted and a line of the rules is refused, unless a file before was not read.
+    ensures rules { RulesCause
+        (seen_files (S.content files.old) (S.faults files.old) (S.faults files.new) (S.overlong files.old) (S.overlong files.new))
+        hosts.now.table (jobs.job_of (map string_bytes words.now)) result }
+
     // 7: only where a read of the program's file failed or it was too long, or, where the program is accepted, the
-    // same of the input's file.
+    // same of the rules' file or the input's.
     ensures read_fault { ReadCause
         (seen_files (S.content files.old) (S.faults files.old) (S.faults files.new) (S.overlong files.old) (S.overlong files.new))
         hosts.now.table (jobs.job_of (map string_bytes words.now)) result }
@@ -347,7 +364,7 @@ pub fn bsan<R: Threads + Wait + Sync, S: Files, K: Sink, G: Gate + Sync>(
         (seen_sink (K.taken out.old) (K.taken out.new) (K.faults out.old) (K.faults out.new))
         (jobs.job_of (map string_bytes words.now)) kept.new result }
 
-    // 2, 3, 4 and 7 leave no record.
+    // 2, 3, 4, 7 and 12 leave no record.
     ensures no_record { LeavesNone kept.new result }
 
     // Where all is well outside, only being out of memory can come between.

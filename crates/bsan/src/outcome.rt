@@ -2,8 +2,10 @@
 ghost use Rattle.std.specs.Prelude.{◌≡◌, IfOk};
 ghost use Rattle.bsan.specs.Answer as answer;
 
+use crate::hush::{hushed_status, hushed_text};
 use crate::lines::{
-    USAGE, accepted_line, fault_line, file_fault_line, load_text, rule_line, too_long_line,
+    USAGE, accepted_line, fault_line, file_fault_line, load_text, rule_line, rules_line,
+    too_long_line,
 };
 use bsan_ids::{ListOf, NoMemory};
 use explain::{Explained, explain_text};
@@ -13,13 +15,24 @@ use race_check::{Race, race_status, race_text};
 use report::{status_of, text_of};
 use run_record::RunRecord;
 use std::alloc::Global;
+use suppress::Rules;
 use target_code::{Target, text};
 
 /// What a file that the words name is for.
 #[derive(Clone, Copy, Debug, PartialEq, Eq)]
 pub enum Role {
     Program,
+    Rules,
     Input,
+}
+
+/// Why a line of a file with rules is refused.
+#[derive(Clone, Copy, Debug, PartialEq, Eq)]
+pub enum LineFault {
+    /// It has none of the forms.
+    BadLine,
+    /// It is a rule that names a function which is not there.
+    NoFunction,
 }
 
 /// What the work of a call found.
@@ -35,6 +48,8 @@ pub enum Outcome {
     NotRead { fault: ReadFault },
     /// A rule is broken in the program.
     NotVerified { rule: Rule, at: u32 },
+    /// A line of the rules is refused, the first one.
+    RulesRefused { fault: LineFault, line: u32 },
     /// The program is accepted, and no run was asked for.
     Accepted { functions: u32, instructions: u32 },
     /// The program is accepted, and its target code was made.
@@ -43,29 +58,38 @@ pub enum Outcome {
     Ran,
     /// The program that the seed and the size give was run, and its record kept.
     Loaded { seed: u32, size: u32 },
+    /// The program was run, its record kept, and these rules hold back reports of it.
+    Hushed { rules: Rules },
     /// The program was run, its record kept, and the data races of the run found.
     Raced { races: ListOf<Race> },
     /// The program was run, its record kept, and the steps found that led to each first violation.
     Traced { violations: ListOf<Explained> },
 }
 
-/// The status of what was found. After a run it is that of the record, or of its races.
-pub fn status_for(found: &Outcome, kept: &RunRecord) -> u8
-    ensures { result ≡ answer.status_for found.now kept.now }
+/// The status of what was found. After a run it is that of the record, of what rules do not hold back of it, or of its
+/// races.
+///
+/// # Errors
+///
+/// `NoMemory`: out of memory.
+pub fn status_for(alloc: Global, found: &Outcome, kept: &RunRecord) -> Result<u8, NoMemory>
+    ensures { IfOk result (λ status. status ≡ answer.status_for found.now kept.now) }
 {
     match found {
-        Outcome::Usage => 2,
-        Outcome::FileFault { .. } | Outcome::TooLong { .. } => 7,
-        Outcome::NotRead { .. } => 3,
-        Outcome::NotVerified { .. } => 4,
-        Outcome::Accepted { .. } | Outcome::Instrumented { .. } => 0,
-        Outcome::Ran | Outcome::Loaded { .. } | Outcome::Traced { .. } => status_of(kept),
-        Outcome::Raced { races } => race_status(kept, races.as_slice()),
+        Outcome::Usage => Ok(2),
+        Outcome::FileFault { .. } | Outcome::TooLong { .. } => Ok(7),
+        Outcome::NotRead { .. } => Ok(3),
+        Outcome::NotVerified { .. } => Ok(4),
+        Outcome::RulesRefused { .. } => Ok(12),
+        Outcome::Accepted { .. } | Outcome::Instrumented { .. } => Ok(0),
+        Outcome::Ran | Outcome::Loaded { .. } | Outcome::Traced { .. } => Ok(status_of(kept)),
+        Outcome::Hushed { rules } => hushed_status(alloc, rules, kept),
+        Outcome::Raced { races } => Ok(race_status(kept, races.as_slice())),
     }
 }
 
-/// The text of what was found: a line or two, the target code, the report of the record or the end of that, the lines of
-/// its races, or those on what led to its violations.
+/// The text of what was found: a line or two, the target code, the report of the record or the end of that, the report
+/// without what rules hold back of it, the lines of its races, or those on what led to its violations.
 ///
 /// # Errors
 ///
@@ -80,6 +104,7 @@ pub fn text_for(alloc: Global, found: &Outcome, kept: &RunRecord) -> Result<Vec<
         Outcome::TooLong { role } => too_long_line(alloc, *role),
         Outcome::NotRead { fault } => fault_line(alloc, *fault),
         Outcome::NotVerified { rule, at } => rule_line(alloc, *rule, *at),
+        Outcome::RulesRefused { fault, line } => rules_line(alloc, *fault, *line),
         Outcome::Accepted {
             functions,
             instructions,
@@ -87,6 +112,7 @@ pub fn text_for(alloc: Global, found: &Outcome, kept: &RunRecord) -> Result<Vec<
         Outcome::Instrumented { target } => text(alloc, target),
         Outcome::Ran => text_of(alloc, kept),
         Outcome::Loaded { seed, size } => load_text(alloc, *seed, *size, kept),
+        Outcome::Hushed { rules } => hushed_text(alloc, rules, kept),
         Outcome::Raced { races } => race_text(alloc, kept, races.as_slice()),
         Outcome::Traced { violations } => explain_text(alloc, kept, violations.as_slice()),
     }

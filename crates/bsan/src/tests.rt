@@ -23,25 +23,27 @@ const USAGE: &str =
     "usage: bsan check FILE | instrument FILE | solo FILE | replay FILE SCHEDULE | run FILE | load SEED SIZE | races FILE SCHEDULE | hush FILE RULES | explain FILE SCHEDULE\n\
     options of solo, replay, run, races, hush and explain: --input FILE --steps N --turns N --allocs N\n";
 
-/// Files of one call: the program's, which is `p`, and the input's, which is `q`, with the reads that fail.
+/// Files of one call: the program's, which is `p`, the input's, which is `q`, and a further one, which is `r`, with the reads
+/// that fail.
 #[derive(Clone, Copy)]
-struct Given<'a> {
-    program: &'a str,
-    input: &'a str,
-    failing: &'a [u64],
+pub(crate) struct Given<'a> {
+    pub(crate) program: &'a str,
+    pub(crate) input: &'a str,
+    pub(crate) further: &'a str,
+    pub(crate) failing: &'a [u64],
 }
 
 /// What a call answered and put, and the logs of its record.
 #[derive(Drop)]
-struct Answer {
-    status: u8,
-    text: Vec<u8>,
-    threads: ListOf<ThreadLog>,
+pub(crate) struct Answer {
+    pub(crate) status: u8,
+    pub(crate) text: Vec<u8>,
+    pub(crate) threads: ListOf<ThreadLog>,
 }
 
 /// A call by the words of a line, which are separated by single blanks, with a sink of so much room. Where there are no
 /// native threads it is to `bsan_alone`.
-fn call<R: Threads + Wait + Sync>(
+pub(crate) fn call<R: Threads + Wait + Sync>(
     native: Option<&R>,
     alloc: Global,
     line: &str,
@@ -54,9 +56,11 @@ fn call<R: Threads + Wait + Sync>(
     }
     let program = Vec::from_slice(alloc, given.program.as_bytes())?;
     let input = Vec::from_slice(alloc, given.input.as_bytes())?;
+    let further = Vec::from_slice(alloc, given.further.as_bytes())?;
     let held = vec![in alloc;
         (Name::from_vec(Vec::from_slice(alloc, b"p")?), program),
         (Name::from_vec(Vec::from_slice(alloc, b"q")?), input),
+        (Name::from_vec(Vec::from_slice(alloc, b"r")?), further),
     ]?;
     let mut files = MemFiles::new(alloc, held, Vec::from_slice(alloc, given.failing)?);
     let mut out = MemSink::new(alloc, room);
@@ -650,6 +654,7 @@ fn serves_programs(rt: HostRuntime) -> Result<(), Fail> {
             let given = Given {
                 program,
                 input: "",
+                further: "",
                 failing: &[],
             };
             let answer = call(Some(&rt), alloc, line, &given, None)?;
@@ -698,6 +703,7 @@ fn answers_files_and_sinks(rt: HostRuntime) -> Result<(), Fail> {
         let given = Given {
             program: filled.as_str(),
             input: input.as_str(),
+            further: "",
             failing,
         };
         let answer = call(Some(&rt), alloc, "solo p --input q", &given, None)?;
@@ -707,6 +713,7 @@ fn answers_files_and_sinks(rt: HostRuntime) -> Result<(), Fail> {
     let given = Given {
         program: SMALLEST,
         input: "",
+        further: "",
         failing: &[],
     };
     for room in 0..78 {
@@ -739,6 +746,7 @@ fn step_limits_leave_the_first_steps(rt: HostRuntime) -> Result<(), Fail> {
     let given = Given {
         program: TWO_HALVES,
         input: "",
+        further: "",
         failing: &[],
     };
     for limit in 1..11 {
@@ -778,12 +786,14 @@ fn one_native_thread_serves_all_but_runs(rt: HostRuntime) -> Result<(), Fail> {
     let given = Given {
         program: TWO_HALVES,
         input: "",
+        further: "",
         failing: &[],
     };
     let alone: Option<&HostRuntime> = None;
     for (line, status, want) in [
         ("run p", 2, USAGE),
         ("load 1 1", 2, USAGE),
+        ("hush p r", 2, USAGE),
         ("solo p", 0, HALVES_REPORT),
     ] {
         let answer = call(alone, alloc, line, &given, None)?;
@@ -803,6 +813,7 @@ fn a_generated_program_is_read_again(rt: HostRuntime) -> Result<(), Fail> {
     let given = Given {
         program,
         input: "",
+        further: "",
         failing: &[],
     };
     let answer = call(Some(&rt), alloc, "check p", &given, None)?;

@@ -13,7 +13,7 @@ ghost use Rattle.bsan.specs.Seen.{seen_files, seen_sink, Failed, WasTooLong, Put
 ghost use Rattle.bsan.specs.Runs.{IsScheduledRun};
 ghost use Rattle.bsan.specs.Words.{origin_of, HasLimits};
 ghost use Rattle.bsan.specs.Words.Origin.{InFile};
-ghost use Rattle.bsan.specs.Causes.{UsageCause, ReadCause, NotReadCause, NotVerifiedCause, PutCause, RunCause, MemoryCause};
+ghost use Rattle.bsan.specs.Causes.{UsageCause, ReadCause, NotReadCause, NotVerifiedCause, RulesCause, PutCause, RunCause, MemoryCause};
 ghost use Rattle.bsan.specs.Causes.{LeavesNone, IsComplete};
 
 use crate::load::{load, read_input, unread_input};
@@ -292,10 +292,13 @@ pub(crate) fn tell<K: Sink>(alloc: Global, found: &Outcome, out: &mut K, kept: &
     requires { CanBeTold found.now kept.now }
     ensures { IsTold (seen_sink (K.taken out.old) (K.taken out.new) (K.faults out.old) (K.faults out.new)) found.now kept.now result }
 {
-    match text_for(alloc, found, kept) {
-        Ok(text) => put_text(out, text.as_slice(), status_for(found, kept)),
-        Err(NoMemory) => NO_MEMORY,
-    }
+    let Ok(text) = text_for(alloc, found, kept) else {
+        return NO_MEMORY;
+    };
+    let Ok(status) = status_for(alloc, found, kept) else {
+        return NO_MEMORY;
+    };
+    put_text(out, text.as_slice(), status)
 }
 
 /// Does the work, and puts its text.
@@ -396,8 +399,13 @@ pub fn bsan_alone<S: Files, K: Sink>(
         (seen_files (S.content files.old) (S.faults files.old) (S.faults files.new) (S.overlong files.old) (S.overlong files.new))
         hosts.now.table (on_one_thread (job_of (map string_bytes words.now))) result }
 
+    // 12: exactly where the program is accepted and a line of the rules is refused, unless a file before was not read.
+    ensures rules { RulesCause
+        (seen_files (S.content files.old) (S.faults files.old) (S.faults files.new) (S.overlong files.old) (S.overlong files.new))
+        hosts.now.table (on_one_thread (job_of (map string_bytes words.now))) result }
+
     // 7: only where a read of the program's file failed or it was too long, or, where the program is accepted, the
-    // same of the input's file.
+    // same of the rules' file or the input's.
     ensures read_fault { ReadCause
         (seen_files (S.content files.old) (S.faults files.old) (S.faults files.new) (S.overlong files.old) (S.overlong files.new))
         hosts.now.table (on_one_thread (job_of (map string_bytes words.now))) result }
@@ -412,7 +420,7 @@ pub fn bsan_alone<S: Files, K: Sink>(
         (seen_sink (K.taken out.old) (K.taken out.new) (K.faults out.old) (K.faults out.new))
         (on_one_thread (job_of (map string_bytes words.now))) kept.new result }
 
-    // 2, 3, 4 and 7 leave no record.
+    // 2, 3, 4, 7 and 12 leave no record.
     ensures no_record { LeavesNone kept.new result }
 
     // Where all is well outside, only being out of memory can come between.

@@ -1,5 +1,6 @@
 use Rattle.bsan.proofs.Complete.{refused, broken, complete}
-use Rattle.bsan.proofs.Status.{unread, unverified, read_cause, run_cause, memory_cause, no_record}
+use Rattle.bsan.proofs.Hushing.{told_rules}
+use Rattle.bsan.proofs.Status.{unread, unverified, refused_rules, read_cause, run_cause, memory_cause, no_record}
 use Rattle.bsan.proofs.native.bsan.Goals as goal
 
 pub returns-clause-run : goal.returns-clause-run
@@ -10,6 +11,9 @@ returns-clause-not_read g c = record { only = unread _ _ _ _ _ _ c.answer.ensure
 
 pub returns-clause-not_verified : goal.returns-clause-not_verified
 returns-clause-not_verified g c = record { only = unverified _ _ _ _ _ _ c.answer.ensures; always = broken _ _ _ _ _ _ c.answer.ensures }
+
+pub returns-clause-rules : goal.returns-clause-rules
+returns-clause-rules g c = record { only = refused_rules _ _ _ _ _ _ c.answer.ensures; always = told_rules _ _ _ _ _ _ c.answer.ensures }
 
 pub returns-clause-read_fault : goal.returns-clause-read_fault
 returns-clause-read_fault g c = read_cause _ _ _ _ _ _ c.answer.ensures
