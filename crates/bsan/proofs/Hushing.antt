@@ -2,7 +2,7 @@
 use Rattle.std.proofs.Common.{◌≡◌, ◌⊎◌, ℕ, List, Option, Some, None, IfSome, sym, subst, ◌∙◌, inl, inr}
 use Rattle.std.specs.Option.{IsSomeAnd}
 use Rattle.command_words.specs.Jobs.{Job, HeldRun}
-use Rattle.command_words.specs.Jobs.Job.{Check, Instrument, Replay, Run, Load, Races, Record, Recheck, Hush, Explain}
+use Rattle.command_words.specs.Jobs.Job.{Check, Instrument, Replay, Run, Load, Races, Hush, Explain}
 use Rattle.history.specs.declared.record.RunRecord.{RunRecord}
 use Rattle.ir_ast.specs.declared.hosts.HostTable.{HostTable}
 use Rattle.ir_ast.specs.declared.program.Program.{Program}
@@ -59,8 +59,6 @@ not_served files hosts kept found program (Replay run) told serves = told
 not_served files hosts kept found program (Run run) told serves = told
 not_served files hosts kept found program (Load run) told serves = told
 not_served files hosts kept found program (Races run) told serves = told
-not_served files hosts kept found program (Record run) told serves = told
-not_served files hosts kept found program (Recheck check) told serves = told
 not_served files hosts kept found program (Hush run) told serves =
     not_taken files program run.rules told (serves.1.2.0, serves.1.2.1, (serves.1.0, serves.1.2.2))
 not_served files hosts kept found program (Explain run) told serves = told

@@ -180,9 +180,7 @@ impl<'a, R: Threads + Wait + Sync, G: Gate + Sync> Native<'a, R, G> {
         ensures overlong { (other : List ℕ) (most : ℕ) → S.overlong files.old other most ≤ S.overlong files.new other most }
     {
         match job {
-            NativeJob::Run(asked) => {
-                load(self.alloc, asked.file, files, self.hosts)
-            }
+            NativeJob::Run(asked) => { load(self.alloc, asked.file, files, self.hosts) }
             NativeJob::Load(asked) => Ok(Ok(generate(self.alloc, asked, self.hosts)?)),
             NativeJob::Hush(asked) => load(self.alloc, asked.file, files, self.hosts),
         }
