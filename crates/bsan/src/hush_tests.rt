@@ -60,15 +60,14 @@ fn holds_back_reports(rt: HostRuntime) -> Result<(), Fail> {
 
 /// The program, the rules and the size to which blanks fill them, the reads that fail, the size of the input, and what
 /// comes.
-const FILES: [(&str, &str, usize, &[u64], usize, u8, &str); 10] = [
+const FILES: [(&str, &str, usize, &[u64], usize, u8, &str); 9] = [
     (TWO, ";", 1_048_576, &[], 1, 1, BOTH),
-    (TWO, ";", 1_048_577, &[], 1, 7, "too long: rules\n"),
+    (TWO, ";", 1_048_577, &[3], 1, 7, "too long: rules\n"),
     (TWO, "", 0, &[1], 1, 7, "read fault: program\n"),
     (TWO, "", 0, &[2], 1, 7, "read fault: rules\n"),
     (TWO, "", 0, &[3], 1, 7, "read fault: input\n"),
     (TWO, "", 0, &[4], 1, 1, BOTH),
     (TWO, "", 0, &[], 1_048_577, 7, "too long: input\n"),
-    (TWO, ";", 1_048_577, &[3], 1, 7, "too long: rules\n"),
     (
         TWO,
         "hold",

@@ -2,8 +2,8 @@
 //!
 //! It reads the words of a command line, the program's file and the program in its text, and verifies
 //! the program. Where that is asked for it reads its input and runs it into a record. It puts one text: the report of
-//! that record, the same without what rules hold back, the data races of its run, the steps that led to its violations, how large the program is, its target
-//! code, or why there is none.
+//! that record, the same without what rules hold back, the data races of its run, the steps that led to its violations,
+//! how large the program is, its target code, or why there is none.
 //!
 //! `bsan_alone` serves the commands that need one native thread: `check`, `instrument`, `solo`, `replay`,
 //! `races` and `explain`.

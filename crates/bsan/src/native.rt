@@ -277,11 +277,11 @@ fn answer<R: Threads + Wait + Sync, S: Files, K: Sink, G: Gate + Sync>(
 
 /// Serves `run FILE`, which runs the program of the file with a native thread for each thread that it starts, and puts
 /// the report of that run; `load SEED SIZE`, which runs the program that the number SEED gives so, whose four workers each
-/// make SIZE stores; `hush FILE RULES`, which runs a program as `run` does and puts its report without the violations that the
-/// rules of a file hold back; and all commands of [`bsan_alone`], which it calls for them. `run` and `hush` take the same options. `load`
-/// takes none: its run has no input and the limits that they have without a value. After `load` the text of a run is the line
-/// `load SEED SIZE: ` with the summary of the report, and the line of its status. All of them may wait for their threads. The `gate`
-/// is told where they have come to.
+/// make SIZE stores; `hush FILE RULES`, which runs a program as `run` does and puts its report without the violations that
+/// the rules of a file hold back; and all commands of [`bsan_alone`], which it calls for them. `run` and `hush` take the
+/// same options. `load` takes none: its run has no input and the limits that they have without a value. After `load` the
+/// text of a run is the line `load SEED SIZE: ` with the summary of the report, and the line of its status. All of them may
+/// wait for their threads. The `gate` is told where they have come to.
 ///
 /// What is done in which order, what is put and what is answered is as for `bsan_alone`: a run on native threads
 /// stands where a run on one does. `load` reads no file, so its answer is none of 3, 4 and 7.
