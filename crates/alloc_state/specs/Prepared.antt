@@ -1,10 +1,10 @@
 -- An allocation's object with the request for which memory was taken.
-use Rattle.std.specs.Prelude.{ℕ, ◌≡◌, ◌<◌, Option, None, is_some, MatchOption, All, Bool, replicate}
+use Rattle.std.specs.Prelude.{ℕ, ◌≡◌, ◌<◌, Option, None, Some, is_some, MatchOption, All, Bool, replicate}
 use Rattle.ir_ast.specs.declared.types.Place.{Place}
 use Rattle.history.specs.Memory.{made_memory}
 use Rattle.history.specs.declared.entry.Request.{Request}
 use Rattle.history.specs.declared.entry.Request.TheVariants.{Make}
-use Rattle.history.specs.Objects.{Object}
+use Rattle.history.specs.Objects.{Object, unmade}
 use Rattle.lazy_tree.specs.Shape.{Shape}
 use Rattle.alloc_state.specs.PlainValues.{PlainValue}
 use Rattle.alloc_state.specs.MadeValues.{MadeValue, made_in, IsPrepared}
@@ -16,6 +16,15 @@ pub record Prepared : Type 0 where
   pub object : Object
   pub tree : Option Shape
   pub ready : Option Request
+
+-- a number that was never asked
+abbrev pub unasked : ℕ → Prepared
+unasked number = record { object = unmade number; tree = None; ready = None }
+
+-- what memory was taken for, or else such a number
+abbrev pub prepared_in : ℕ → Option Prepared → Prepared
+prepared_in number None = unasked number
+prepared_in number (Some prepared) = prepared
 
 -- every tag of the tree is below a bound
 abbrev pub AreBelow : ℕ → Object → Type 0

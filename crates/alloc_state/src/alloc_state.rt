@@ -7,7 +7,7 @@ ghost use Rattle.history.specs.Histories.{HasBytes, replay, fits, is_make, IsHis
 ghost use Rattle.alloc_state.specs.Log.{has_make};
 ghost use Rattle.alloc_state.specs.Repeats.{IsStillAfter, HasCutsBy, IsWithinRepeat, visits_of};
 
-use crate::object_state::ObjectState;
+use crate::boxed_state::BoxedState;
 use bsan_ids::{AllocNo, ListOf, NoMemory, Stamp, ThreadNo};
 use history::{Entry, Logged, Request};
 use lazy_tree::LazyTree;
@@ -24,7 +24,7 @@ use std::marker::Model;
 pub struct AllocState {
     number: AllocNo,
     entries: Vec<Entry>,
-    state: ObjectState,
+    state: BoxedState,
 }
 
 impl Model for AllocState {
@@ -53,7 +53,7 @@ impl AllocState {
         AllocState {
             number,
             entries: Vec::new(alloc),
-            state: ObjectState::new(number),
+            state: BoxedState::new(number),
         }
     }
 

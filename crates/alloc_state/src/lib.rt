@@ -6,6 +6,7 @@
 #![tactic(auto)]
 
 mod alloc_state;
+mod boxed_state;
 mod copies;
 mod made_state;
 mod object_state;

@@ -1,13 +1,13 @@
 //! The object of one allocation, with the memory that the next request needs.
 ghost use Rattle.std.specs.Prelude.{◌≡◌, IfOk, IsTrue, List, MatchOption, None, OnErr, OnOk, Some};
 ghost use Rattle.std.specs.Option.{option_map};
-ghost use Rattle.history.specs.Objects.{answer, unmade};
+ghost use Rattle.history.specs.Objects.{answer};
 ghost use Rattle.history.specs.Histories.{fits};
 ghost use Rattle.lazy_tree.specs.Eager.{eager_of};
 ghost use Rattle.history.specs.Pieces.{Byte};
 ghost use Rattle.alloc_state.specs.MadeValues.{made_in, object_in, IsPrepared};
 ghost use Rattle.alloc_state.specs.Outcomes.{reply_with, HasBytesOut};
-ghost use Rattle.alloc_state.specs.Prepared.{AreBelow, IsFreshFor, is_made_in};
+ghost use Rattle.alloc_state.specs.Prepared.{AreBelow, IsFreshFor, is_made_in, unasked};
 ghost use Rattle.alloc_state.specs.Repeats.{IsPrepareCounted, IsRunCounted};
 
 use crate::made_state::MadeState;
@@ -114,7 +114,7 @@ fn outcome_of(
 impl ObjectState {
     /// A number that was never made.
     pub fn new(number: AllocNo) -> ObjectState
-        ensures { result ≡ record { object = unmade number.0; tree = None; ready = None } }
+        ensures { result ≡ unasked number.0 }
     {
         ObjectState {
             number,

@@ -4,7 +4,7 @@ use Rattle.std.specs.Io.KnownBytes.{Appends}
 use Rattle.std.specs.Option.{IsSomeAnd, option_and_then}
 use Rattle.outside_io.specs.Reading.{Tells, IsLongerThan}
 use Rattle.command_words.specs.Jobs.{Job, Settings, ScheduledRun, default_settings, settings_in}
-use Rattle.command_words.specs.Jobs.Job.{Check, Instrument, Replay, Run, Load, Races, Record, Recheck, Hush, Explain}
+use Rattle.command_words.specs.Jobs.Job.{Check, Instrument, Replay, Run, Load, Races, Hush, Explain}
 use Rattle.core_model.specs.Kept.{Replayed}
 use Rattle.ir_ast.specs.declared.hosts.HostTable.{HostTable}
 use Rattle.ir_ast.specs.declared.program.Program.{Program}
@@ -272,8 +272,6 @@ complete files hosts sink asked kept answer (inl told) job program input well = 
       status = told_status found (Raced serves.1.0) serves.1.1 is;
       text = told_text found (Raced serves.1.0) serves.1.1 appends;
     }
-    by_job found (Record run) has serves is appends = absurd serves
-    by_job found (Recheck check) has serves is appends = absurd serves
     by_job found (Hush run) has serves is appends = absurd serves
     by_job found (Explain run) has serves is appends = record {
       right = replayed run has serves.0;

@@ -3,7 +3,7 @@ use Rattle.std.proofs.Common.{◌≡◌, ◌≢◌, ◌≤◌, List, ℕ, Option
 use Rattle.std.specs.Option.{option_map, IsSomeAnd}
 use Rattle.bsan_ids.specs.declared.numbers.NoMemory.{NoMemory}
 use Rattle.command_words.specs.Jobs.{Job, Settings, ScheduledRun, default_settings, native_in, on_one_thread}
-use Rattle.command_words.specs.Jobs.Job.{Check, Instrument, Replay, Run, Load, Races, Record, Recheck, Hush, Explain}
+use Rattle.command_words.specs.Jobs.Job.{Check, Instrument, Replay, Run, Load, Races, Hush, Explain}
 use Rattle.command_words.specs.Meaning.{native_job_meant}
 use Rattle.command_words.specs.declared.jobs.NativeJob.{NativeJob}
 use Rattle.ir_ast.specs.declared.hosts.HostTable.{HostTable}
@@ -121,8 +121,6 @@ later_serves part whole hosts kept found program (Load run) later serves =
     (serves.0, later_native part whole hosts kept program default_settings later serves.1)
 later_serves part whole hosts kept found program (Races run) later serves =
     (later_scheduled part whole hosts kept program run later serves.0, serves.1)
-later_serves part whole hosts kept found program (Record run) later serves = absurd serves
-later_serves part whole hosts kept found program (Recheck check) later serves = absurd serves
 later_serves part whole hosts kept found program (Hush run) later serves = absurd serves
 later_serves part whole hosts kept found program (Explain run) later serves =
     (later_scheduled part whole hosts kept program run later serves.0, serves.1)
@@ -169,8 +167,6 @@ serving files hosts kept found program (Replay run) serves = subst IsServing (sy
 serving files hosts kept found program (Run run) serves = subst IsServing (sym serves.0) tt
 serving files hosts kept found program (Load run) serves = subst IsServing (sym serves.0) tt
 serving files hosts kept found program (Races run) serves = subst IsServing (sym serves.1.1) tt
-serving files hosts kept found program (Record run) serves = absurd serves
-serving files hosts kept found program (Recheck check) serves = absurd serves
 serving files hosts kept found program (Hush run) serves = absurd serves
 serving files hosts kept found program (Explain run) serves = subst IsServing (sym serves.1.1) tt
 
@@ -241,8 +237,6 @@ native_is (Replay run) native is = absurd cc
 native_is (Run run) native is = cc
 native_is (Load run) native is = cc
 native_is (Races run) native is = absurd cc
-native_is (Record run) native is = cc
-native_is (Recheck check) native is = absurd cc
 native_is (Hush run) native is = cc
 native_is (Explain run) native is = absurd cc
 

@@ -1,7 +1,7 @@
 -- Of what a run left its text can be made.
 use Rattle.std.proofs.Common.{◌≡◌, ◌⊎◌, Option, sym, subst, inl, inr}
 use Rattle.command_words.specs.Jobs.{Job, Settings, ScheduledRun, default_settings}
-use Rattle.command_words.specs.Jobs.Job.{Check, Instrument, Replay, Run, Load, Races, Record, Recheck, Hush, Explain}
+use Rattle.command_words.specs.Jobs.Job.{Check, Instrument, Replay, Run, Load, Races, Hush, Explain}
 use Rattle.history.specs.Records.{empty_record}
 use Rattle.history.specs.declared.record.RunRecord.{RunRecord}
 use Rattle.ir_ast.specs.declared.hosts.HostTable.{HostTable}
@@ -44,8 +44,6 @@ serves_told files hosts kept found program (Load run) serves =
     subst (λ (f : Outcome). CanBeTold f kept) (sym serves.0) (native_reportable files hosts kept program default_settings serves.1)
 serves_told files hosts kept found program (Races run) serves =
     subst (λ (f : Outcome). CanBeTold f kept) (sym serves.1.1) ((run_reportable files hosts kept program run serves.0).distinct, serves.1.2)
-serves_told files hosts kept found program (Record run) serves = absurd serves
-serves_told files hosts kept found program (Recheck check) serves = absurd serves
 serves_told files hosts kept found program (Hush run) serves = absurd serves
 serves_told files hosts kept found program (Explain run) serves =
     subst (λ (f : Outcome). CanBeTold f kept) (sym serves.1.1)
@@ -74,8 +72,6 @@ serves_left files hosts kept found program (Replay run) serves = inr serves.1
 serves_left files hosts kept found program (Run run) serves = inr serves.1
 serves_left files hosts kept found program (Load run) serves = inr serves.1
 serves_left files hosts kept found program (Races run) serves = inr serves.0
-serves_left files hosts kept found program (Record run) serves = absurd serves
-serves_left files hosts kept found program (Recheck check) serves = absurd serves
 serves_left files hosts kept found program (Hush run) serves = absurd serves
 serves_left files hosts kept found program (Explain run) serves = inr serves.0
 

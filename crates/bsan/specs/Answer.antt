@@ -3,7 +3,7 @@ use Rattle.std.specs.Prelude.{◌≡◌, ◌⊎◌, ℕ, List, length, Option, S
 use Rattle.std.specs.List.{sum_by}
 use Rattle.std.specs.Io.KnownBytes.{Keeps}
 use Rattle.command_words.specs.Jobs.{Job, default_settings, on_one_thread}
-use Rattle.command_words.specs.Jobs.Job.{Check, Instrument, Replay, Run, Load, Races, Record, Recheck, Hush, Explain}
+use Rattle.command_words.specs.Jobs.Job.{Check, Instrument, Replay, Run, Load, Races, Hush, Explain}
 use Rattle.command_words.specs.Meaning.{native_job_meant}
 use Rattle.command_words.specs.declared.jobs.NativeJob.{NativeJob}
 use Rattle.ir_ast.specs.Programs.{function_instructions}
@@ -167,8 +167,6 @@ Serves files hosts kept found program (Run run) = (found ≡ Ran) × IsNativeRun
 Serves files hosts kept found program (Load run) =
     (found ≡ Loaded run.seed run.size) × IsNativeRun files hosts kept program default_settings
 Serves files hosts kept found program (Races run) = IsScheduledRun files hosts kept program run × IsRaced kept found
-Serves files hosts kept found program (Record run) = ⊥
-Serves files hosts kept found program (Recheck check) = ⊥
 Serves files hosts kept found program (Hush run) = ⊥
 Serves files hosts kept found program (Explain run) = IsScheduledRun files hosts kept program run × IsTraced kept found
 

@@ -4,7 +4,7 @@ use Rattle.std.specs.List.{list_any, sum_by}
 use Rattle.std.specs.Io.KnownBytes.{Appends, Keeps}
 use Rattle.outside_io.specs.Counts.{Rose}
 use Rattle.command_words.specs.Jobs.{Job, Settings, LoadRun, ScheduledRun, default_settings, settings_in}
-use Rattle.command_words.specs.Jobs.Job.{Check, Instrument, Replay, Run, Load, Races, Record, Recheck, Hush, Explain}
+use Rattle.command_words.specs.Jobs.Job.{Check, Instrument, Replay, Run, Load, Races, Hush, Explain}
 use Rattle.core_model.specs.Kept.{Replayed}
 use Rattle.ir_ast.specs.Programs.{function_instructions}
 use Rattle.ir_ast.specs.declared.hosts.HostTable.{HostTable}
@@ -240,8 +240,6 @@ IsServed hosts sink kept program input answer (Replay run) = IsReported hosts si
 IsServed hosts sink kept program input answer (Run run) = IsRunRight hosts sink kept program input run.settings answer
 IsServed hosts sink kept program input answer (Load run) = IsLoadTold hosts sink kept program run answer
 IsServed hosts sink kept program input answer (Races run) = IsChecked hosts sink kept program input run answer
-IsServed hosts sink kept program input answer (Record run) = ⊥
-IsServed hosts sink kept program input answer (Recheck check) = ⊥
 IsServed hosts sink kept program input answer (Hush run) = ⊥
 IsServed hosts sink kept program input answer (Explain run) = IsExplained hosts sink kept program input run answer
 

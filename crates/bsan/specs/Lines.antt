@@ -12,8 +12,8 @@ use Rattle.bsan.specs.declared.outcome.Role.TheVariants.{Program, Input}
 
 abbrev pub usage_text : List ℕ
 usage_text =
-    codes "usage: bsan check FILE | instrument FILE | solo FILE | replay FILE SCHEDULE | run FILE | load SEED SIZE | races FILE SCHEDULE | record FILE | recheck FILE RECORD | hush FILE RULES | explain FILE SCHEDULE" ++ 10
-    ∷ (codes "options of solo, replay, run, races, record, recheck, hush and explain: --input FILE --steps N --turns N --allocs N" ++ 10 ∷ [])
+    codes "usage: bsan check FILE | instrument FILE | solo FILE | replay FILE SCHEDULE | run FILE | load SEED SIZE | races FILE SCHEDULE | hush FILE RULES | explain FILE SCHEDULE" ++ 10
+    ∷ (codes "options of solo, replay, run, races, hush and explain: --input FILE --steps N --turns N --allocs N" ++ 10 ∷ [])
 
 abbrev pub role_text : Role → List ℕ
 role_text Program = codes "program"

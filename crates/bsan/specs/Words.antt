@@ -2,7 +2,7 @@
 use Rattle.std.specs.Prelude.{ℕ, ◌≤◌, List, Option, IfSome}
 use Rattle.std.specs.Option.{option_and_then}
 use Rattle.command_words.specs.Jobs.{Job, LoadRun, settings_in}
-use Rattle.command_words.specs.Jobs.Job.{Check, Instrument, Replay, Run, Load, Races, Record, Recheck, Hush, Explain}
+use Rattle.command_words.specs.Jobs.Job.{Check, Instrument, Replay, Run, Load, Races, Hush, Explain}
 use Rattle.core_model.specs.Running.{AreLimits}
 
 -- a word, or a name of a file, as its bytes
@@ -21,8 +21,6 @@ origin_of (Replay run) = InFile run.file
 origin_of (Run run) = InFile run.file
 origin_of (Load run) = Generated run
 origin_of (Races run) = InFile run.file
-origin_of (Record run) = InFile run.file
-origin_of (Recheck check) = InFile check.file
 origin_of (Hush run) = InFile run.file
 origin_of (Explain run) = InFile run.file
 

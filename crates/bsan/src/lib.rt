@@ -16,8 +16,6 @@ mod lines;
 mod load;
 mod native;
 mod outcome;
-mod recheck;
-mod record;
 mod top;
 
 pub use native::bsan;

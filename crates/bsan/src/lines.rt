@@ -13,8 +13,8 @@ use std::alloc::Global;
 
 /// How the program is used.
 pub(crate) const USAGE: &str =
-    "usage: bsan check FILE | instrument FILE | solo FILE | replay FILE SCHEDULE | run FILE | load SEED SIZE | races FILE SCHEDULE | record FILE | recheck FILE RECORD | hush FILE RULES | explain FILE SCHEDULE\n\
-options of solo, replay, run, races, record, recheck, hush and explain: --input FILE --steps N --turns N --allocs N\n";
+    "usage: bsan check FILE | instrument FILE | solo FILE | replay FILE SCHEDULE | run FILE | load SEED SIZE | races FILE SCHEDULE | hush FILE RULES | explain FILE SCHEDULE\n\
+options of solo, replay, run, races, hush and explain: --input FILE --steps N --turns N --allocs N\n";
 
 /// A file's role in a word.
 fn role_name(role: Role) -> &'static str

@@ -157,7 +157,6 @@ impl<'a, R: Threads + Wait + Sync, G: Gate + Sync> Native<'a, R, G> {
         match job {
             NativeJob::Run(asked) => self.serve_run(asked, verified, files, kept),
             NativeJob::Load(asked) => self.serve_load(asked, verified, files, kept),
-            NativeJob::Record(asked) => self.serve_record(asked, verified, files, kept),
             NativeJob::Hush(asked) => self.serve_hush(asked, verified, files, kept),
         }
     }
@@ -181,7 +180,7 @@ impl<'a, R: Threads + Wait + Sync, G: Gate + Sync> Native<'a, R, G> {
         ensures overlong { (other : List ℕ) (most : ℕ) → S.overlong files.old other most ≤ S.overlong files.new other most }
     {
         match job {
-            NativeJob::Run(asked) | NativeJob::Record(asked) => {
+            NativeJob::Run(asked) => {
                 load(self.alloc, asked.file, files, self.hosts)
             }
             NativeJob::Load(asked) => Ok(Ok(generate(self.alloc, asked, self.hosts)?)),

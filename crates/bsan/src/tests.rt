@@ -20,8 +20,8 @@ const REPORT: &str =
     "thread 0 returned 0\nsteps 0, allocations 0, threads 1, violations 0\nstatus 0\n";
 
 const USAGE: &str =
-    "usage: bsan check FILE | instrument FILE | solo FILE | replay FILE SCHEDULE | run FILE | load SEED SIZE | races FILE SCHEDULE | record FILE | recheck FILE RECORD | hush FILE RULES | explain FILE SCHEDULE\n\
-    options of solo, replay, run, races, record, recheck, hush and explain: --input FILE --steps N --turns N --allocs N\n";
+    "usage: bsan check FILE | instrument FILE | solo FILE | replay FILE SCHEDULE | run FILE | load SEED SIZE | races FILE SCHEDULE | hush FILE RULES | explain FILE SCHEDULE\n\
+    options of solo, replay, run, races, hush and explain: --input FILE --steps N --turns N --allocs N\n";
 
 /// Files of one call: the program's, which is `p`, and the input's, which is `q`, with the reads that fail.
 #[derive(Clone, Copy)]

@@ -18,7 +18,6 @@ ghost use Rattle.bsan.specs.Causes.{LeavesNone, IsComplete};
 
 use crate::load::{load, read_input, unread_input};
 use crate::outcome::{Outcome, status_for, text_for};
-use crate::recheck::serve_recheck;
 use bsan_ids::{ListOf, NoMemory};
 use command_words::{Job, ScheduledRun, WordsFault, read_job};
 use core_model::{main_machine, replay};
@@ -242,9 +241,8 @@ fn serve<S: Files>(
         }),
         Job::Replay(asked) => serve_replay(alloc, asked, verified, files, hosts, kept),
         Job::Races(asked) => serve_races(alloc, asked, verified, files, hosts, kept),
-        Job::Recheck(asked) => serve_recheck(alloc, asked, verified, files, hosts, kept),
         Job::Explain(asked) => serve_explain(alloc, asked, verified, files, hosts, kept),
-        Job::Run(_) | Job::Load(_) | Job::Record(_) | Job::Hush(_) => unreachable!(),
+        Job::Run(_) | Job::Load(_) | Job::Hush(_) => unreachable!(),
     }
 }
 
@@ -256,8 +254,7 @@ fn file_of<'w>(job: &Job<'w>) -> &'w str
     match job {
         Job::Check { file } | Job::Instrument { file } => file,
         Job::Replay(run) | Job::Races(run) | Job::Explain(run) => run.file,
-        Job::Recheck(check) => check.file,
-        Job::Run(_) | Job::Load(_) | Job::Record(_) | Job::Hush(_) => unreachable!(),
+        Job::Run(_) | Job::Load(_) | Job::Hush(_) => unreachable!(),
     }
 }
 

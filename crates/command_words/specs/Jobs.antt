@@ -40,12 +40,6 @@ pub record HeldRun : Type 0 where
   pub rules : Text
   pub settings : Settings
 
--- a record of a run that is to be checked: the program's file, the record's, and what the options say
-pub record RecordCheck : Type 0 where
-  pub file : Text
-  pub record_file : Text
-  pub settings : Settings
-
 pub data Job : Type 0 where
   Check : (file : Text) → Job
   Instrument : (file : Text) → Job
@@ -53,8 +47,6 @@ pub data Job : Type 0 where
   Run : (run : NativeRun) → Job
   Load : (run : LoadRun) → Job
   Races : (run : ScheduledRun) → Job
-  Record : (run : NativeRun) → Job
-  Recheck : (check : RecordCheck) → Job
   Hush : (run : HeldRun) → Job
   Explain : (run : ScheduledRun) → Job
 
@@ -66,8 +58,6 @@ settings_in (Replay run) = Some run.settings
 settings_in (Run run) = Some run.settings
 settings_in (Load run) = Some default_settings
 settings_in (Races run) = Some run.settings
-settings_in (Record run) = Some run.settings
-settings_in (Recheck check) = Some check.settings
 settings_in (Hush run) = Some run.settings
 settings_in (Explain run) = Some run.settings
 
@@ -75,7 +65,6 @@ settings_in (Explain run) = Some run.settings
 abbrev pub native_in : Job → Option Job
 native_in (Run run) = Some (Run run)
 native_in (Load run) = Some (Load run)
-native_in (Record run) = Some (Record run)
 native_in (Hush run) = Some (Hush run)
 native_in job = None
 
@@ -187,13 +176,6 @@ held asked = record { file = asked.file; rules = asked.word; settings = asked.se
 abbrev pub hush_by : List Text → Option HeldRun
 hush_by words = option_map held (both_by (codes "hush") (codes "RULES") words)
 
-abbrev pub checked : FileAndWord → RecordCheck
-checked asked = record { file = asked.file; record_file = asked.word; settings = asked.settings }
-
--- the check of the command `recheck FILE RECORD`
-abbrev pub recheck_by : List Text → Option RecordCheck
-recheck_by words = option_map checked (both_by (codes "recheck") (codes "RECORD") words)
-
 -- what the words ask for: the first is a command's name, and clap takes them as this command's
 unfoldable pub job_of : List Text → Option Job
 job_of [] = None
@@ -205,8 +187,6 @@ job_of (name ∷ rest) =
     else (if bytes_eq name (codes "run") then option_map Run (native_by (codes "run") (name ∷ rest))
     else (if bytes_eq name (codes "load") then option_map Load (load_by (name ∷ rest))
     else (if bytes_eq name (codes "races") then option_map Races (scheduled_by (codes "races") (name ∷ rest))
-    else (if bytes_eq name (codes "record") then option_map Record (native_by (codes "record") (name ∷ rest))
-    else (if bytes_eq name (codes "recheck") then option_map Recheck (recheck_by (name ∷ rest))
     else (if bytes_eq name (codes "hush") then option_map Hush (hush_by (name ∷ rest))
     else (if bytes_eq name (codes "explain") then option_map Explain (scheduled_by (codes "explain") (name ∷ rest))
-    else None))))))))))
+    else None))))))))

@@ -11,9 +11,7 @@ mod program_words;
 mod tests;
 
 use bsan_ids::NoMemory;
-pub use jobs::{
-    HeldRun, Job, LoadRun, NativeJob, NativeRun, RecordCheck, ScheduledRun, Settings, read_job,
-};
+pub use jobs::{HeldRun, Job, LoadRun, NativeJob, NativeRun, ScheduledRun, Settings, read_job};
 pub use program_words::words_of;
 use std::alloc::AllocError;
 

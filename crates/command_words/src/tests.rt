@@ -40,13 +40,6 @@ fn told(alloc: Global, line: &str) -> Result<String, AllocError> {
         Ok(Job::Run(run)) => told_native(alloc, "run", &run),
         Ok(Job::Load(LoadRun { seed, size })) => format!(in alloc; "load {seed} {size}"),
         Ok(Job::Races(run)) => told_run(alloc, "races", &run),
-        Ok(Job::Record(run)) => told_native(alloc, "record", &run),
-        Ok(Job::Recheck(check)) => {
-            let file = check.file;
-            let record_file = check.record_file;
-            let settings = told_settings(alloc, &check.settings)?;
-            format!(in alloc; "recheck {file} {record_file} {settings}")
-        }
         Ok(Job::Hush(run)) => {
             let file = run.file;
             let rules = run.rules;
@@ -108,16 +101,6 @@ fn words_are_read(rt: HostRuntime) -> Result<(), Fail> {
         (
             "races 3 --input=races --allocs 9 --turns=8 --steps 7 1023",
             "races 3 races 7 8 9 1 1023",
-        ),
-        ("record p", "record p none 1000000 10000000 65536"),
-        (
-            "record --steps=4 record --input i",
-            "record record i 4 10000000 65536",
-        ),
-        ("recheck p r", "recheck p r none 1000000 10000000 65536"),
-        (
-            "recheck --allocs 9 recheck --input=i p",
-            "recheck recheck p i 1000000 10000000 9",
         ),
         ("hush p r", "hush p r none 1000000 10000000 65536"),
         (
@@ -196,12 +179,6 @@ fn words_are_read(rt: HostRuntime) -> Result<(), Fail> {
         "races p 1,1024",
         "races p 1,",
         "race p 1",
-        "record",
-        "record p 0",
-        "record p --turns 0",
-        "recheck p",
-        "recheck p r s",
-        "recheck p r --allocs 65537",
         "hush p",
         "hush p r --steps",
         "hush p r 0",
