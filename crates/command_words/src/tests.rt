@@ -53,7 +53,7 @@ fn told(alloc: Global, line: &str) -> Result<String, AllocError> {
 }
 
 #[test]
-fn words_are_read(rt: HostRuntime) -> Result<(), Fail> {
+fn words_of_one_thread_are_read(rt: HostRuntime) -> Result<(), Fail> {
     let alloc = rt.alloc();
     let taken = [
         ("check p", "check p"),
@@ -89,6 +89,17 @@ fn words_are_read(rt: HostRuntime) -> Result<(), Fail> {
             "replay --steps 2 p --input i 7 --turns 3",
             "replay p i 2 3 65536 1 7",
         ),
+    ];
+    for (line, want) in taken {
+        assert_eq!(rt; told(alloc, line)?.as_str(), want);
+    }
+    Ok(())
+}
+
+#[test]
+fn words_of_more_commands_are_read(rt: HostRuntime) -> Result<(), Fail> {
+    let alloc = rt.alloc();
+    let taken = [
         ("run p", "run p none 1000000 10000000 65536"),
         (
             "run --turns=3 run --input q --steps 2 --allocs 1",
@@ -116,6 +127,12 @@ fn words_are_read(rt: HostRuntime) -> Result<(), Fail> {
     for (line, want) in taken {
         assert_eq!(rt; told(alloc, line)?.as_str(), want);
     }
+    Ok(())
+}
+
+#[test]
+fn other_words_are_refused(rt: HostRuntime) -> Result<(), Fail> {
+    let alloc = rt.alloc();
     let refused = [
         "",
         "check",
@@ -142,6 +159,18 @@ fn words_are_read(rt: HostRuntime) -> Result<(), Fail> {
         "solo p --input",
         "solo p --steps --turns 5",
         "solo p --steps 1 --steps 2",
+    ];
+    for line in refused {
+        assert_eq!(rt; told(alloc, line)?.as_str(), "refused", "{line}");
+    }
+    assert_eq!(rt; read_job(alloc, &[]).is_err(), true);
+    Ok(())
+}
+
+#[test]
+fn numbers_out_of_range_are_refused(rt: HostRuntime) -> Result<(), Fail> {
+    let alloc = rt.alloc();
+    let refused = [
         "solo p --steps 0",
         "solo p --steps 4000001",
         "solo p --turns 0",
@@ -163,6 +192,17 @@ fn words_are_read(rt: HostRuntime) -> Result<(), Fail> {
         "replay p 1 2",
         "replay p +1",
         "replay p 1;2",
+    ];
+    for line in refused {
+        assert_eq!(rt; told(alloc, line)?.as_str(), "refused", "{line}");
+    }
+    Ok(())
+}
+
+#[test]
+fn words_of_more_commands_are_refused(rt: HostRuntime) -> Result<(), Fail> {
+    let alloc = rt.alloc();
+    let refused = [
         "load",
         "load 1",
         "load 1 0",
@@ -189,7 +229,6 @@ fn words_are_read(rt: HostRuntime) -> Result<(), Fail> {
     for line in refused {
         assert_eq!(rt; told(alloc, line)?.as_str(), "refused", "{line}");
     }
-    assert_eq!(rt; read_job(alloc, &[]).is_err(), true);
     Ok(())
 }
 
