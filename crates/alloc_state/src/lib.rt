@@ -12,8 +12,6 @@ mod made_state;
 mod object_state;
 mod outcome;
 mod plain_mem;
-#[cfg(test)]
-mod tests;
 mod tree_steps;
 
 pub use alloc_state::AllocState;

@@ -23,7 +23,3 @@ pub use laws::the_others_are_held;
 pub use native::bsan;
 pub use top::bsan_alone;
 
-#[cfg(test)]
-mod hush_tests;
-#[cfg(test)]
-mod tests;

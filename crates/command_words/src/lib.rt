@@ -7,8 +7,6 @@ mod commands;
 mod jobs;
 mod numbers;
 mod program_words;
-#[cfg(test)]
-mod tests;
 
 use bsan_ids::NoMemory;
 pub use jobs::{HeldRun, Job, LoadRun, NativeJob, NativeRun, ScheduledRun, Settings, read_job};

@@ -10,8 +10,6 @@ mod laws;
 mod lines;
 mod places;
 mod shown;
-#[cfg(test)]
-mod tests;
 
 pub use laws::places_stand_at_numbers;
 pub use lines::{before_in_line, column_number, from_in_line, line_number};

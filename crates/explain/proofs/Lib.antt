@@ -9,4 +9,3 @@ pub mod Listing
 pub mod Writing
 pub mod Left
 pub mod Single
-pub mod Samples

@@ -7,8 +7,6 @@ mod explained;
 mod last_change;
 mod laws;
 mod replay;
-#[cfg(test)]
-mod tests;
 mod text;
 
 pub use causes::explain;

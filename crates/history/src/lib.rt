@@ -13,8 +13,6 @@ mod merged;
 mod piece;
 mod record;
 mod restriction;
-#[cfg(test)]
-mod tests;
 mod trap;
 
 pub use ask::{Arg, Ask, MachineEnd};

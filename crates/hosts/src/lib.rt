@@ -3,8 +3,6 @@
 
 mod hosts;
 mod standard;
-#[cfg(test)]
-mod tests;
 
 pub use hosts::Hosts;
 pub use standard::{standard_answer, standard_table};

@@ -36,5 +36,3 @@ pub fn unassigned(alloc: Global, program: &Program) -> Result<Option<Fault>, NoM
     Ok(first)
 }
 
-#[cfg(test)]
-mod tests;

@@ -18,5 +18,3 @@ pub use real_files::RealFiles;
 pub use real_sink::RealSink;
 pub use sink::{PutFault, Sink};
 
-#[cfg(test)]
-mod tests;

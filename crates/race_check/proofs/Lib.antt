@@ -10,4 +10,3 @@ pub mod Steps
 pub mod Single
 pub mod Described
 pub mod Lines
-pub mod Samples

@@ -9,8 +9,6 @@ mod key;
 mod laws;
 mod race;
 mod slots;
-#[cfg(test)]
-mod tests;
 mod text;
 mod tracked;
 mod uses;

@@ -1,3 +1,3 @@
 pub mod Reportable
 pub mod Lines
-pub mod Samples
+pub mod Printing

@@ -20,6 +20,13 @@ abbrev pub print_text : ℕ → Request → List ℕ
 print_text thread (Print value) = codes "thread " ++ (decimal thread ++ (codes " prints " ++ (decimal value ++ 10 ∷ [])))
 print_text thread _ = []
 
+abbrev pub asks_print : Request → Bool
+asks_print (Print value) = true
+asks_print _ = false
+
+abbrev pub is_print : Entry → Bool
+is_print entry = asks_print entry.request
+
 abbrev pub print_line : Entry → List ℕ
 print_line entry = print_text entry.thread.0 entry.request
 

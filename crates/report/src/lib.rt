@@ -4,9 +4,8 @@
 
 mod counts;
 mod end;
+mod prints;
 mod step;
-#[cfg(test)]
-mod tests;
 mod text;
 mod violation;
 mod words;

@@ -10,31 +10,12 @@ ghost use Rattle.report.specs.Report.{IsReportable, is_no_memory, is_limit, is_t
 
 use crate::counts::{make_count, step_count, violation_count};
 use crate::end::end_line;
+use crate::prints::prints;
 use crate::violation::violation_string;
 use bsan_ids::NoMemory;
-use history::{Entry, Request};
+use history::Entry;
 use run_record::{AllocLog, End, RunRecord, ThreadLog};
 use std::alloc::{AllocError, Global};
-
-fn print_line(alloc: Global, entry: &Entry) -> Result<String, AllocError>
-    ensures { IfOk result (λ line. string_bytes line ≡ report.print_line entry.now) }
-{
-    let thread = entry.thread.0;
-    match entry.request {
-        Request::Print { value } => format!(in alloc; "thread {thread} prints {value}\n"),
-        _ => Ok(String::new(alloc)),
-    }
-}
-
-fn print_lines(alloc: Global, entries: &[Entry]) -> Result<String, AllocError>
-    ensures { IfOk result (λ lines. string_bytes lines ≡ flat_map report.print_line entries.now) }
-{
-    let mut lines = String::new(alloc);
-    for entry in entries {
-        lines.push_str(print_line(alloc, entry)?.as_str())?;
-    }
-    Ok(lines)
-}
 
 fn violation_lines(alloc: Global, entries: &[Entry]) -> Result<String, AllocError>
     requires described { All IsDescribable entries.now }
@@ -135,14 +116,6 @@ fn status_line(alloc: Global, kept: &RunRecord) -> Result<String, AllocError>
 {
     let status = status_of(kept);
     format!(in alloc; "status {status}\n")
-}
-
-fn prints(alloc: Global, kept: &RunRecord) -> Result<String, NoMemory>
-    requires { IsReportable kept.now }
-    ensures { IfOk result (λ lines. string_bytes lines ≡ report.prints kept.now) }
-{
-    let entries = kept.merged()?;
-    Ok(print_lines(alloc, &entries)?)
 }
 
 fn violations(alloc: Global, kept: &RunRecord) -> Result<String, NoMemory>

@@ -7,3 +7,5 @@ mod gates;
 mod programs;
 #[cfg(test)]
 mod running;
+#[cfg(test)]
+mod space;

@@ -2,8 +2,6 @@
 //! and a thread's log with those of all threads below it.
 #![tactic(auto)]
 
-#[cfg(test)]
-mod tests;
 mod tree;
 
 pub use history::{AllocLog, End, RunRecord, ThreadLog};

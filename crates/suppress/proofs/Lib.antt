@@ -3,5 +3,4 @@ pub mod Reading
 pub mod Refusing
 pub mod Places
 pub mod Shown
-pub mod Samples
 pub mod Programs

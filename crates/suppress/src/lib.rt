@@ -9,8 +9,6 @@ mod line;
 mod place;
 mod read;
 mod rules;
-#[cfg(test)]
-mod tests;
 mod text;
 
 pub use case::{Case, Cause, case_of};

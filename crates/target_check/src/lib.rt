@@ -4,8 +4,6 @@
 mod lines;
 mod neighbours;
 mod numbers;
-#[cfg(test)]
-mod tests;
 mod whole;
 
 pub use whole::well_formed;

@@ -6,8 +6,6 @@ mod copies;
 mod family;
 mod line;
 mod printer;
-#[cfg(test)]
-mod tests;
 mod words;
 
 pub use family::Family;

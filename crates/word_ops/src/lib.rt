@@ -8,8 +8,6 @@
 mod laws;
 mod operations;
 mod signs;
-#[cfg(test)]
-mod tests;
 mod widths;
 
 pub use laws::signed_words;

@@ -4,8 +4,6 @@
 mod insts;
 mod laws;
 mod program;
-#[cfg(test)]
-mod tests;
 
 pub use laws::{made_instructions, made_is_accepted, made_is_program};
 pub use program::make;

@@ -1,0 +1,137 @@
+//! Requests to a lazy tree and to the eager tree for which it stands.
+ghost use Rattle.std.specs.Prelude.{◌≡◌, OnOk};
+ghost use Rattle.lazy_tree.specs.Eager.{eager_of};
+
+use lazy_access::readiness::fits;
+use lazy_access::{TreeRequest, access, end_protector, free_all, prepare, retag};
+use bsan_ids::{NoMemory, Span, Tag};
+use eager_tree::EagerTree;
+use lazy_tree::LazyTree;
+use perm_table::{Guard, Kind, RetagKind};
+use std::test::Fail;
+
+/// Asks two trees that are one tree, and whether they answer the same. They are one tree afterwards.
+fn agree(
+    eager: &mut EagerTree,
+    lazy: &mut LazyTree,
+    request: TreeRequest,
+    new: Tag,
+) -> Result<bool, NoMemory>
+    requires { eager.old.tree ≡ eager_of lazy.old }
+    ensures { OnOk result (eager.new.tree ≡ eager_of lazy.new) }
+{
+    prepare(lazy, &request)?;
+    match request {
+        TreeRequest::Access { tag, span, kind } if eager.has(tag) && fits(lazy, span) => {
+            Ok(eager.access(tag, span, kind) == access(lazy, tag, span, kind))
+        }
+        TreeRequest::Retag {
+            parent,
+            span,
+            kind,
+            guard,
+        } if eager.has(parent) && fits(lazy, span) && eager.is_newer(new) => {
+            let answer = eager.retag(parent, span, kind, guard, new)?;
+            Ok(answer == retag(lazy, parent, span, kind, guard, new))
+        }
+        TreeRequest::EndProtector { tag } if eager.has(tag) => {
+            Ok(eager.end_protector(tag) == end_protector(lazy, tag))
+        }
+        TreeRequest::FreeAll { tag } if eager.has(tag) => {
+            Ok(eager.free_all(tag) == free_all(lazy, tag))
+        }
+        _ => Ok(false),
+    }
+}
+
+/// One byte is read, written or reborrowed.
+fn of_one_byte(round: u64, drawn: u64, tag: Tag) -> TreeRequest {
+    let span = Span {
+        start: (drawn % 64) as u32,
+        len: 1,
+    };
+    if round % 8 == 0 {
+        return TreeRequest::Retag {
+            parent: tag,
+            span,
+            kind: RetagKind::Mut,
+            guard: Guard::Free,
+        };
+    }
+    let kind = if round % 3 == 0 {
+        Kind::Write
+    } else {
+        Kind::Read
+    };
+    TreeRequest::Access { tag, span, kind }
+}
+
+/// Some bytes are read, written or reborrowed, a protector is ended, or the allocation is freed.
+fn of_any_kind(round: u64, drawn: u64, tag: Tag) -> TreeRequest {
+    let start = (drawn % 64) as u32;
+    let span = Span {
+        start,
+        len: 1 + (drawn / 64 % 64) as u32 % (64 - start),
+    };
+    match round % 8 {
+        0 | 4 => TreeRequest::Retag {
+            parent: tag,
+            span,
+            kind: KINDS[(drawn % 5) as usize],
+            guard: GUARDS[(drawn % 3) as usize],
+        },
+        1 | 5 => TreeRequest::Access {
+            tag,
+            span,
+            kind: Kind::Write,
+        },
+        2 => TreeRequest::EndProtector { tag },
+        6 if drawn % 4 == 0 => TreeRequest::FreeAll { tag },
+        _ => TreeRequest::Access {
+            tag,
+            span,
+            kind: Kind::Read,
+        },
+    }
+}
+
+const KINDS: [RetagKind; 5] = [
+    RetagKind::Mut,
+    RetagKind::Shr,
+    RetagKind::Cell,
+    RetagKind::Boxed,
+    RetagKind::ShrCell,
+];
+
+const GUARDS: [Guard; 3] = [Guard::Free, Guard::Weak, Guard::Strong];
+
+/// Asks that a value may move to another thread.
+fn ask_sent<T: Send>(_: &T) {}
+
+#[test]
+fn a_thousand_requests_agree(rt: HostRuntime) -> Result<(), Fail> {
+    for one_byte in [true, false] {
+        let mut eager = EagerTree::new(rt.alloc(), Tag(1), 64)?;
+        let mut lazy = LazyTree::new(rt.alloc(), Tag(1), 64);
+        ask_sent(&lazy);
+        let mut x: u64 = 3;
+        'rounds: for round in 1..1_001_u64 {
+            x = x.wrapping_mul(1_103_515_245).wrapping_add(12_345) % 2_147_483_648;
+            let drawn = x / 65_536;
+            let nodes = if lazy.len() == 0 {
+                1
+            } else {
+                lazy.len() as u64
+            };
+            let tag = Tag(1 + drawn % nodes);
+            let request = if one_byte {
+                of_one_byte(round, drawn, tag)
+            } else {
+                of_any_kind(round, drawn, tag)
+            };
+            let new = Tag(nodes.wrapping_add(1));
+            assert!(rt; agree(&mut eager, &mut lazy, request, new)?);
+        }
+    }
+    Ok(())
+}

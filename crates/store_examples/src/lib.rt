@@ -1,0 +1,21 @@
+//! What values over bytes, fragments, protectors, words, entries, logs, trees and allocations answer, worked out by hand.
+#![tactic(auto)]
+
+#[cfg(test)]
+mod allocations;
+#[cfg(test)]
+mod bytes;
+#[cfg(test)]
+mod fragments;
+#[cfg(test)]
+mod frames;
+#[cfg(test)]
+mod histories;
+#[cfg(test)]
+mod lazy_trees;
+#[cfg(test)]
+mod ranges;
+#[cfg(test)]
+mod trees;
+#[cfg(test)]
+mod words;
