@@ -22,4 +22,3 @@ mod top;
 pub use laws::the_others_are_held;
 pub use native::bsan;
 pub use top::bsan_alone;
-

@@ -35,4 +35,3 @@ pub fn unassigned(alloc: Global, program: &Program) -> Result<Option<Fault>, NoM
     }
     Ok(first)
 }
-

@@ -17,4 +17,3 @@ pub use mem_sink::MemSink;
 pub use real_files::RealFiles;
 pub use real_sink::RealSink;
 pub use sink::{PutFault, Sink};
-
