@@ -1,5 +1,6 @@
 -- An access that is known to change nothing, and what every lazy tree keeps.
-use Rattle.std.specs.Prelude.{ℕ, ◌<◌, ◌≤◌, ◌≡◌, Bool, List, length, Option, Some, None, MatchOption, IsTrue}
+use Rattle.std.specs.Prelude.{ℕ, ◌<◌, ◌≤◌, ◌≡◌, Bool, List, length, Option, Some, None, IsTrue}
+use Rattle.std.specs.List.{All}
 use Rattle.bsan_ids.specs.declared.numbers.Tag.{Tag}
 use Rattle.bsan_ids.specs.declared.numbers.Span.{Span}
 use Rattle.perm_table.specs.declared.Kind.{Kind}
@@ -26,10 +27,14 @@ pub record IsSettled (t : Shape) (tag : Tag) (span : Span) (kind : Kind) : Type 
 abbrev pub bare : Tag → ℕ → List Node → Shape
 bare root size nodes = record { root = root; size = size; nodes = nodes; visits = 0; spare = 0; ready = None; marks = 0; list_room = 0 }
 
+-- each of these accesses is settled, in a tree of these nodes
+pub record AreSettled (root : Tag) (size : ℕ) (nodes : List Node) (known : List Settled) : Type 0 where
+  pub each : All (λ s. IsSettled (bare root size nodes) s.tag s.span s.kind) known
+
 -- what every lazy tree keeps
-pub record IsKept (root : Tag) (size : ℕ) (nodes : List Node) (made : Option (Ranges Slot)) (path : List Bool) (known : Option Settled) : Type 0 where
+pub record IsKept (root : Tag) (size : ℕ) (nodes : List Node) (made : Option (Ranges Slot)) (path : List Bool) (known : List Settled) : Type 0 where
   pub some : 1 ≤ size
   pub sound : IsSound size nodes
   pub ready : (runs : Ranges Slot) → made ≡ Some runs → length runs.bytes ≡ size
   pub clear : IsClear path
-  pub settled : MatchOption known (Unit {0}) (λ s. IsSettled (bare root size nodes) s.tag s.span s.kind)
+  pub settled : AreSettled root size nodes known

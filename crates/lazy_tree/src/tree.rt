@@ -1,5 +1,6 @@
 //! The tree and its node calls, by which a crate above reads and changes it.
-ghost use Rattle.std.specs.Prelude.{◌≡◌, ◌↔◌, ℕ, ◌+◌, ◌<◌, ◌≤◌, length, [], None, OnOk, OnErr, IfSome, MatchOption, IsTrue, IsFalse, vec_capacity};
+ghost use Rattle.std.specs.Prelude.{◌≡◌, ◌↔◌, ℕ, ◌+◌, ◌<◌, ◌≤◌, length, [], None, OnOk, OnErr, IfSome, MatchOption, IsTrue, IsFalse, vec_capacity, vec_len, nat_lt, MatchBool, ◌++◌, ◌∷◌};
+ghost use Rattle.std.specs.List.{Contains};
 ghost use Rattle.range_map.specs.Ranges.{IsRanges, has_start, with_start};
 ghost use Rattle.eager_tree.specs.Tree.{is_node};
 ghost use Rattle.lazy_tree.specs.Skip.{node_at, slot_at, run_after, with_runs, put_in, with_free, with_child, counted, MayPut, MayAdd, IsRootAlone, IsReady, IsSound, IsClear};
@@ -26,8 +27,12 @@ struct Node {
     runs: RangeMap<Slot>,
 }
 
+/// How many accesses a tree has room to keep in mind: those of four threads that each go over four
+/// spans, whatever their order.
+const MOST_SETTLED: usize = 16;
+
 /// An access through a node on a span.
-#[derive(Clone, Copy)]
+#[derive(Clone, Copy, Drop)]
 struct Settled {
     tag: Tag,
     span: Span,
@@ -57,8 +62,8 @@ pub struct LazyTree {
     /// The room of a walk, kept from one to the next.
     path: Vec<bool>,
     opened: Vec<usize>,
-    /// An access that changes nothing, until a node changes.
-    settled: Option<Settled>,
+    /// Accesses that change nothing, until a node changes.
+    settled: Vec<Settled>,
     visits: u64,
 }
 
@@ -78,7 +83,7 @@ impl Model for LazyTree {
 
     ghost view = { shape_of };
 
-    ghost invariant = { λ t. IsKept t.root t.size t.nodes.items t.ready t.path.items t.settled };
+    ghost invariant = { λ t. IsKept t.root t.size t.nodes.items t.ready t.path.items t.settled.items };
 }
 
 impl LazyTree {
@@ -97,7 +102,7 @@ impl LazyTree {
             ready: None,
             path: Vec::new(alloc),
             opened: Vec::new(alloc),
-            settled: None,
+            settled: Vec::new(alloc),
             visits: 0,
         }
     }
@@ -219,7 +224,7 @@ impl LazyTree {
         ensures by_one { self.new.visits ≤ self.old.visits + 1 }
     {
         self.visits = self.visits.saturating_add(1);
-        self.settled = None;
+        self.settled.clear();
         let changed = &mut self.nodes[node];
         changed.runs.put(at, slot);
     }
@@ -234,7 +239,7 @@ impl LazyTree {
         ensures starts { (node_at self.new.nodes node).runs.starts ≡ with_start at (node_at self.old.nodes node).runs.starts }
         ensures spare { (node_at self.old.nodes node).runs.spare ≤ (node_at self.new.nodes node).runs.spare + 1 }
     {
-        self.settled = None;
+        self.settled.clear();
         let changed = &mut self.nodes[node];
         changed.runs.split_at(at);
     }
@@ -247,7 +252,7 @@ impl LazyTree {
         ensures fewer { (s : ℕ) → IsTrue (has_start s (node_at self.new.nodes node).runs.starts) → IsTrue (has_start s (node_at self.old.nodes node).runs.starts) }
         ensures spare { (node_at self.old.nodes node).runs.spare ≤ (node_at self.new.nodes node).runs.spare }
     {
-        self.settled = None;
+        self.settled.clear();
         let changed = &mut self.nodes[node];
         changed.runs.merge();
     }
@@ -265,7 +270,7 @@ impl LazyTree {
         ensures starts { (node_at self.new.nodes node).runs.starts ≡ (node_at self.old.nodes node).runs.starts }
         ensures spare { (node_at self.old.nodes node).runs.spare ≤ (node_at self.new.nodes node).runs.spare }
     {
-        self.settled = None;
+        self.settled.clear();
         let changed = &mut self.nodes[node];
         changed.runs.reserve(runs)
     }
@@ -275,7 +280,7 @@ impl LazyTree {
         requires node { node < length self.old.nodes }
         ensures tree { self.new ≡ record self.old { nodes = with_free self.old.nodes node } }
     {
-        self.settled = None;
+        self.settled.clear();
         self.nodes[node].guard = Guard::Free;
     }
 
@@ -285,11 +290,11 @@ impl LazyTree {
         requires { IsSettled self.old tag span kind }
         ensures { self.new ≡ self.old }
     {
-        self.settled = Some(Settled { tag, span, kind });
+        keep(&mut self.settled, Settled { tag, span, kind });
     }
 
     /// Whether an access is known to change nothing, which the counter counts as one run that is read.
-    /// The last one that was settled is, if no node has changed since.
+    /// Those that were settled are, if no node has changed since and there was room to keep them.
     pub fn is_settled(&mut self, tag: Tag, span: Span, kind: Kind) -> bool
         ensures settled { IsTrue result → IsSettled self.old tag span kind }
         ensures tree { self.new ≡ record self.old { visits = self.new.visits } }
@@ -298,13 +303,11 @@ impl LazyTree {
         ensures rises { self.old.visits ≤ self.new.visits }
         ensures by_one { self.new.visits ≤ self.old.visits + 1 }
     {
-        match self.settled {
-            Some(settled) if settled.is(tag, span, kind) => {
-                self.visits = self.visits.saturating_add(1);
-                true
-            }
-            _ => false,
+        let known = is_among(&self.settled, tag, span, kind);
+        if known {
+            self.visits = self.visits.saturating_add(1);
         }
+        known
     }
 
     /// Lends the room of a walk, to be given back by `return_scratch`. No mark is set.
@@ -375,7 +378,7 @@ impl LazyTree {
         }
     }
 
-    /// Makes room for a walk over the nodes.
+    /// Makes room for a walk over the nodes, and for the accesses through them that are kept in mind.
     ///
     /// # Errors
     ///
@@ -388,6 +391,9 @@ impl LazyTree {
         ensures tree { self.new ≡ record self.old { marks = self.new.marks; list_room = self.new.list_room } }
     {
         let count = self.nodes.len();
+        if count > 0 && self.settled.capacity() == 0 {
+            self.settled.reserve(MOST_SETTLED)?;
+        }
         self.opened.clear();
         self.opened.reserve(count)?;
         self.path.resize(count, false)?;
@@ -422,7 +428,7 @@ impl LazyTree {
         self.nodes.reserve(1)?;
         self.opened.reserve(1)?;
         self.path.resize(1, false)?;
-        self.settled = None;
+        self.settled.clear();
         self.nodes.push_reserved(Node {
             tag: self.root,
             parent: None,
@@ -470,7 +476,7 @@ impl LazyTree {
         let Some(runs) = self.ready.take() else {
             unreachable!()
         };
-        self.settled = None;
+        self.settled.clear();
         let count = self.nodes.len();
         let next = self.nodes[parent].next;
         self.nodes[parent].next = Some(count);
@@ -482,6 +488,25 @@ impl LazyTree {
             guard,
             runs,
         });
+    }
+}
+
+/// Whether this access is one of those.
+fn is_among(known: &[Settled], tag: Tag, span: Span, kind: Kind) -> bool
+    ensures { IsTrue result → Contains known.now (record { tag = tag; span = span; kind = kind }) }
+{
+    known.iter().any(|settled| settled.is(tag, span, kind))
+}
+
+/// Keeps one more of these accesses. Where there is no room for it, all of them are forgotten, so that
+/// those of the steps to come find room.
+fn keep(known: &mut Vec<Settled>, settled: Settled)
+    ensures { MatchBool (nat_lt (vec_len known.old) (vec_capacity known.old)) (known.new.items ≡ known.old.items ++ settled ∷ []) (known.new.items ≡ []) }
+{
+    if known.len() < known.capacity() {
+        known.push_reserved(settled);
+    } else {
+        known.clear();
     }
 }
 

@@ -1,4 +1,4 @@
-use Rattle.lazy_tree.proofs.Settling.{settled-bare}
+use Rattle.lazy_tree.proofs.Settling.{settled-bare, kept-settled}
 use Rattle.lazy_tree.proofs.tree.LazyTree.settle.Goals as goal
 
 pub invariant_of-self : goal.invariant_of-self
@@ -9,5 +9,5 @@ invariant_of-self c =
       sound = c.self.invariant.sound;
       ready = c.self.invariant.ready;
       clear = c.self.invariant.clear;
-      settled = rw (← c.self.view_is) at settled;
+      settled = kept-settled _ _ _ _ _ _ _ c.keep.ensures (rw (← c.self.view_is) at settled) c.self.invariant.settled;
     }
