@@ -1,5 +1,5 @@
-use outside_io::{FileFault, Files, MemFiles, MemSink, PutFault, RealFiles, RealSink, Sink};
 use bsan_ids::Name;
+use outside_io::{FileFault, Files, MemFiles, MemSink, PutFault, RealFiles, RealSink, Sink};
 use std::fs;
 use std::test::Fail;
 use std::time::Clock;

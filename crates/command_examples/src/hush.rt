@@ -1,4 +1,4 @@
-use bsan::tests::{Given, call};
+use crate::calls::{Given, call};
 use std::test::Fail;
 
 /// Two allocations with a first violation each, at the instructions 4 and 6; at 5 the first one has a second violation.

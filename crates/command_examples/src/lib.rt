@@ -2,12 +2,22 @@
 #![tactic(auto)]
 
 #[cfg(test)]
-mod commands;
+mod calls;
+#[cfg(test)]
+mod explanations;
 #[cfg(test)]
 mod files;
 #[cfg(test)]
 mod host_table;
 #[cfg(test)]
 mod hush;
+#[cfg(test)]
+mod limits;
+#[cfg(test)]
+mod races;
+#[cfg(test)]
+mod runs;
+#[cfg(test)]
+mod texts;
 #[cfg(test)]
 mod words;

@@ -1,5 +1,5 @@
-use ir_assigned::unassigned;
 use bsan_ids::{ListOf, Name, NoMemory};
+use ir_assigned::unassigned;
 use ir_ast::{
     Block, Function, Goal, Inst, Jump, Named, Op, Program, ResultTy, Term, Ty, TypedVal, Val, Width,
 };

@@ -1,5 +1,5 @@
-use excerpt::{MOST_SHOWN, column_number, excerpt, instruction_places, line_number};
 use bsan_ids::{ListOf, Name, NoMemory};
+use excerpt::{MOST_SHOWN, column_number, excerpt, instruction_places, line_number};
 use ir_ast::{Block, Function, Inst, Jump, Named, Op, Program, ResultTy, Term};
 use std::alloc::Global;
 use std::test::Fail;

@@ -1,12 +1,12 @@
 ghost use Rattle.std.specs.Prelude.{◌≤◌};
 
-use workload::{made_is_program, make};
 use bsan_ids::{ListOf, NoMemory};
 use ir_ast::{HostTable, print};
 use ir_verify::verify;
 use std::alloc::Global;
 use std::process::Abort;
 use std::test::Fail;
+use workload::{made_is_program, make};
 
 const HEADS: [&str; 4] = [
     "func @w0(ptr mut(32) %p0) -> i64 {\n",

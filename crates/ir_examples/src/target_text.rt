@@ -1,7 +1,7 @@
-use target_code::{Line, Operand, Target, TargetFunction, text};
 use bsan_ids::{Copied, ListOf, NoMemory};
 use std::alloc::Global;
 use std::test::Fail;
+use target_code::{Line, Operand, Target, TargetFunction, text};
 
 /// Only for what threads may share and hand over.
 fn ask_shared<T: Send + Sync>(_: &T) {}

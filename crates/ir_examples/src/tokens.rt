@@ -1,9 +1,8 @@
-use ir_text::*;
-use ir_text::token::TokenKind;
-use ir_text::token::TokenKind::{
-    Arrow, CloseBrace, CloseRound, Colon, Comma, Equals, Global as Name, Local, Number,
-    OpenBrace, OpenRound, Word,
+use ir_text::TokenKind::{
+    Arrow, CloseBrace, CloseRound, Colon, Comma, Equals, Global as Name, Local, Number, OpenBrace,
+    OpenRound, Word,
 };
+use ir_text::{LexFault, TokenKind, tokens};
 use std::test::Fail;
 
 /// The tokens of these kinds, starts and lengths.

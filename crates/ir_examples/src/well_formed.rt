@@ -1,9 +1,9 @@
-use target_check::well_formed;
 use bsan_ids::{ListOf, NoMemory};
 use ir_ast::{Place, Ty, Width};
 use perm_table::{Guard, RetagKind};
 use std::alloc::Global;
 use std::test::Fail;
+use target_check::well_formed;
 use target_code::{Line, Operand, Target, TargetFunction, text};
 
 /// A function with three slots, these entry lines and these blocks.

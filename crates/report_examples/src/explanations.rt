@@ -5,9 +5,9 @@ ghost use Rattle.history.specs.Records.{HasDistinctStamps};
 ghost use Rattle.alloc_state.specs.Log.{has_make};
 ghost use Rattle.explain.specs.Explanations.{AreHistories};
 
-use explain::{explain, explain_text};
 use alloc_state::AllocState;
 use bsan_ids::{AllocNo, Copied, Counters, ListOf, NoMemory, Prov, Stamp, Tag, ThreadNo};
+use explain::{explain, explain_text};
 use history::{AllocLog, End, Entry, Request, RunRecord, ThreadLog};
 use ir_ast::{Place, Ty, Width};
 use perm_table::{Guard, RetagKind};

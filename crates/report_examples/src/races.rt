@@ -3,11 +3,11 @@ ghost use Rattle.std.specs.List.Sorted.{IsStrictlyIncreasing};
 ghost use Rattle.history.specs.Merge.{stamp_of};
 ghost use Rattle.history.specs.Records.{HasDistinctStamps};
 
-use race_check::{race_text, races};
 use bsan_ids::{AllocNo, Counters, ListOf, NoMemory, Stamp, ThreadNo};
 use history::{End, Entry, Plain, Reply, Request, RunRecord, ThreadLog, Verdict};
 use ir_ast::{ModifyOp, Place, Ty, Width};
 use perm_table::{Guard, RetagKind};
+use race_check::{race_text, races};
 use std::alloc::Global;
 use std::process::Abort;
 use std::test::Fail;

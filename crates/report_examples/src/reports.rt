@@ -3,12 +3,12 @@ ghost use Rattle.history.specs.Records.{violates};
 ghost use Rattle.report.specs.Violation.{is_operation, IsDescribable};
 ghost use Rattle.report.specs.Report.{IsReportable};
 
-use report::{part, status_of, text_of, violation_line, what};
 use bsan_ids::{AllocNo, Counters, ListOf, NoMemory, Prov, Stamp, Tag, ThreadNo};
 use eager_tree::Violation;
 use history::{Entry, Piece, Plain, Reply, Request, Trap, Verdict};
 use ir_ast::{ModifyOp, Place, Ty, Width};
 use perm_table::{Guard, Perm, RetagKind};
+use report::{part, status_of, text_of, violation_line, what};
 use run_record::{AllocLog, End, RunRecord, ThreadLog};
 use std::alloc::Global;
 use std::process::Abort;

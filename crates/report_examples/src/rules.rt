@@ -2,9 +2,6 @@ ghost use Rattle.std.specs.Prelude.{◌≡◌, IfOk};
 ghost use Rattle.report.specs.Violation.{IsDescribable};
 ghost use Rattle.report.specs.Report.{IsReportable};
 
-use suppress::{
-    Case, Cause, Hold, Rule, Rules, RulesFault, case_of, held_status, held_text, holds, read_rules,
-};
 use bsan_ids::{AllocNo, Copied, Counters, ListOf, NoMemory, Prov, Stamp, Tag, ThreadNo};
 use eager_tree::Violation;
 use history::{Entry, Plain, Reply, Request, Verdict};
@@ -16,6 +13,9 @@ use perm_table::Perm;
 use run_record::{AllocLog, End, RunRecord, ThreadLog};
 use std::alloc::Global;
 use std::test::Fail;
+use suppress::{
+    Case, Cause, Hold, Rule, Rules, RulesFault, case_of, held_status, held_text, holds, read_rules,
+};
 
 /// Function f has the instruction 0, and main has 1, 2 and 3.
 const PROGRAM: &str = "bir 1

@@ -145,6 +145,27 @@ slice_get-frags k xs x e =
     let place : 0 + k ≡ k = omega arith in
     subst (λ (n : ℕ). slice_get (frags_from 0 xs) k ≡ Some (frag_at n x)) place (slice_get-frags_from 0 k xs x e)
 
+-- fragments that are one value from a place on, where that value is written there again
+put-same : (from n : ℕ) (v : Option Frag) (xs : List (Option Frag)) → from + n ≤ length xs → ((b : ℕ) → from ≤ b → b < from + n → slice_get xs b ≡ Some v) → put from (replicate n v) xs ≡ xs
+put-same zero zero v xs within same = refl
+put-same zero (suc n) v [] within same = absurd (omega (arith, within))
+put-same zero (suc n) v (x ∷ xs) within same =
+    let first : Some x ≡ Some v = same 0 (omega arith) (omega arith) in
+    let e : v ≡ x = cc in
+    let place : 0 + length (v ∷ replicate n v) ≡ suc (0 + length (replicate n v)) = omega arith in
+    let rest : put zero (replicate n v) xs ≡ xs = put-same zero n v xs (omega (arith, within)) (λ b lo hi. same (suc b) (omega arith) (omega (arith, hi))) in
+    rw place (ap (λ (ys : List (Option Frag)). v ∷ ys) rest ∙ ap (λ (y : Option Frag). y ∷ xs) e)
+put-same (suc from) n v [] within same = absurd (omega (arith, within))
+put-same (suc from) n v (x ∷ xs) within same =
+    let rest : put from (replicate n v) xs ≡ xs = put-same from n v xs (omega (arith, within)) (λ b lo hi. same (suc b) (omega (arith, lo)) (omega (arith, hi))) in
+    let place : suc from + length (replicate n v) ≡ suc (from + length (replicate n v)) = omega arith in
+    rw place (ap (λ (ys : List (Option Frag)). x ∷ ys) rest)
+
+-- bytes without a fragment, from which the fragments are taken again
+pub clear-put : (from n : ℕ) (xs : List (Option Origin)) → from + n ≤ length xs → ((b : ℕ) → from ≤ b → b < from + n → slice_get xs b ≡ Some None) → put from (replicate n None) (frags_from 0 xs) ≡ frags_from 0 xs
+clear-put from n xs within same =
+    put-same from n None (frags_from 0 xs) (omega (arith, within, length-frags_from 0 xs)) (λ b lo hi. slice_get-frags b xs None (same b lo hi))
+
 pub small-at : (fs : List (Option Frag)) (k : ℕ) (f : Frag) → All is_small fs → slice_get fs k ≡ Some (Some f) → f.index < 256
 small-at [] zero f h e = absurd (let none : None ≡ Some (Some f) = e in cc)
 small-at [] (suc k) f h e = absurd (let none : None ≡ Some (Some f) = e in cc)

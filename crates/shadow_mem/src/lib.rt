@@ -1,7 +1,7 @@
 //! The fragments of stored pointers, one for each byte of an allocation, kept as runs.
 #![tactic(auto)]
 
-ghost use Rattle.std.specs.Prelude.{[], ◌∷◌, ◌≡◌, ◌+◌, ◌<◌, ◌≤◌, ◌^◌, None, Some, length, replicate, slice_get, All, IfOk, IsOk, OnOk, OnErr};
+ghost use Rattle.std.specs.Prelude.{[], ◌∷◌, ◌≡◌, ◌+◌, ◌<◌, ◌≤◌, ◌^◌, None, Some, length, replicate, slice_get, All, IfOk, IsOk, OnOk, OnErr, true};
 ghost use Rattle.history.specs.Memory.{in_range, put};
 ghost use Rattle.history.specs.Fragments.{is_run, loaded, stored};
 ghost use Rattle.shadow_mem.specs.Origins.{is_at, is_small, frags_from};
@@ -125,6 +125,18 @@ impl ShadowMem {
         self.map.reserve(runs)
     }
 
+    // Whether one run without a fragment has all bytes of a span: then there is nothing to take from them.
+    fn is_clear(&self, span: Span) -> bool
+        requires some { 1 ≤ span.len }
+        requires within { span.start + span.len ≤ length self.now.frags }
+        ensures { result ≡ true → put span.start (replicate span.len None) self.now.frags ≡ self.now.frags }
+    {
+        match self.map.get(span.start) {
+            None => span.start + span.len <= self.map.run_end(span.start),
+            Some(_) => false,
+        }
+    }
+
     // Gives the bytes of a span one origin.
     fn set(&mut self, span: Span, origin: Option<Origin>)
         requires some { 1 ≤ span.len }
@@ -164,7 +176,9 @@ impl ShadowMem {
         ensures size { length self.new.frags ≡ length self.old.frags }
         ensures spare { self.old.spare ≤ self.new.spare + 2 }
     {
-        self.set(span, None);
+        if !self.is_clear(span) {
+            self.set(span, None);
+        }
     }
 
     /// Gives the byte `at`, which lies below the size, this fragment or none. It takes room for two

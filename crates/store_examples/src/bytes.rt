@@ -1,4 +1,7 @@
-use byte_mem::*;
+use bsan_ids::Copied;
+use byte_mem::ByteMem;
+use history::Trap;
+use ir_ast::{Place, Width};
 use std::test::Fail;
 
 /// Asks that a value may be used by several threads and may move to another one.

@@ -1,5 +1,5 @@
-use shadow_mem::*;
-use bsan_ids::{AllocNo, Tag};
+use bsan_ids::{AllocNo, Copied, Frag, Prov, Span, Tag};
+use shadow_mem::ShadowMem;
 use std::test::Fail;
 
 fn prov(alloc: u32, tag: u64) -> Prov {

@@ -1,5 +1,5 @@
-use protectors::*;
-use bsan_ids::{AllocNo, Tag};
+use bsan_ids::{AllocNo, Copied, Prov, Tag};
+use protectors::Frames;
 use std::test::Fail;
 
 fn prov(tag: u64) -> Prov {

@@ -1,7 +1,9 @@
 ghost use Rattle.std.specs.Prelude.{◌≡◌, IfOk};
 
-use history::*;
 use bsan_ids::{AllocNo, Copied, Stamp, ThreadNo};
+use history::{
+    Entry, Piece, PieceBuffer, Plain, Reply, Request, RunRecord, Verdict, merge_by_stamp, of_thread,
+};
 use std::alloc::Global;
 use std::test::Fail;
 
@@ -42,7 +44,7 @@ fn a_thread_has_its_entries_in_order(rt: HostRuntime) -> Result<(), Fail> {
 }
 
 #[test]
-#[tactic(auto, using(crate::proofs::Distinct::can_merge_two))]
+#[tactic(auto, using(history::proofs::Distinct::can_merge_two))]
 fn entries_merge_by_stamp(rt: HostRuntime) -> Result<(), Fail> {
     let mut entries = Vec::new(rt.alloc());
     entries.push(copied_in(rt.alloc(), 6, 0)?)?;

@@ -1,14 +1,21 @@
 //! Requests to a lazy tree and to the eager tree for which it stands.
-ghost use Rattle.std.specs.Prelude.{◌≡◌, OnOk};
+ghost use Rattle.std.specs.Prelude.{◌≡◌, ◌+◌, ◌≤◌, ◌×◌, IsTrue, OnOk};
 ghost use Rattle.lazy_tree.specs.Eager.{eager_of};
 
-use lazy_access::readiness::fits;
-use lazy_access::{TreeRequest, access, end_protector, free_all, prepare, retag};
 use bsan_ids::{NoMemory, Span, Tag};
 use eager_tree::EagerTree;
+use lazy_access::{TreeRequest, access, end_protector, free_all, prepare, retag};
 use lazy_tree::LazyTree;
 use perm_table::{Guard, Kind, RetagKind};
 use std::test::Fail;
+
+/// Whether a span has a byte and lies in the allocation.
+fn fits(tree: &LazyTree, span: Span) -> bool
+    ensures { IsTrue result → (1 ≤ span.len) × (span.start + span.len ≤ tree.now.size) }
+{
+    let end = u64::from(span.start) + u64::from(span.len);
+    1 <= span.len && end <= u64::from(tree.size())
+}
 
 /// Asks two trees that are one tree, and whether they answer the same. They are one tree afterwards.
 fn agree(

@@ -1,4 +1,5 @@
-use range_map::*;
+use bsan_ids::{Copied, Span};
+use range_map::RangeMap;
 use std::test::Fail;
 
 /// Asks that a value may be used by several threads and may move to another one.

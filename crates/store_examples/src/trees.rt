@@ -1,5 +1,5 @@
-use run_record::{End, ThreadLog, ThreadTree};
 use bsan_ids::{Copied, ListOf, ThreadNo};
+use run_record::{End, ThreadLog, ThreadTree};
 use std::alloc::Global;
 use std::test::Fail;
 

@@ -1,6 +1,20 @@
-use word_ops::widths::cut;
-use word_ops::{WordTrap, binary, cast, compare, modify};
+ghost use Rattle.std.specs.Prelude.{◌<◌};
+ghost use Rattle.ir_ast.specs.Words.{modulus};
+
 use ir_ast::{BinaryOp, CastOp, Cond, ModifyOp, Width};
+use word_ops::{WordTrap, binary, cast, compare, modify};
+
+/// The lowest bits of a number, as many as a word of this width has.
+fn cut(width: Width, number: u64) -> u64
+    ensures { result < modulus width }
+{
+    match width {
+        Width::W8 => number % 0x100,
+        Width::W16 => number % 0x1_0000,
+        Width::W32 => number % 0x1_0000_0000,
+        Width::W64 => number,
+    }
+}
 
 #[test]
 fn words_are_worked(rt: HostRuntime) {

@@ -1,7 +1,7 @@
 -- A thread goes on past the line that it answers.
 use Rattle.std.proofs.Common.{◌≡◌, ℕ, List, [], ◌∷◌, drop, refl, ap, ◌∙◌}
 use Rattle.target_code.specs.declared.line.Line.{Line}
-use Rattle.thread_machine.specs.Thread.{Thread, at_lines, cross, go_on}
+use Rattle.thread_machine.specs.Thread.{Thread, cross, go_on}
 use Rattle.thread_machine.specs.Views.{skipped}
 use Rattle.thread_machine.proofs.Running.{run_rest}
 

@@ -1,13 +1,11 @@
 -- A reply that fits what a thread asks has the number that its line wants.
-use Rattle.std.proofs.Common.{◌≡◌, ℕ, List, [], ◌∷◌, Option, Some, None, Bool, true, false, refl, subst}
+use Rattle.std.proofs.Common.{ℕ, List, [], ◌∷◌, Option, Some, None, Bool, true, false, subst}
 use Rattle.ir_ast.specs.declared.types.Place.{Place}
-use Rattle.history.specs.declared.ask.Ask.{Ask}
 use Rattle.history.specs.declared.ask.MachineEnd.{MachineEnd}
 use Rattle.history.specs.declared.entry.Entry.{Entry}
 use Rattle.history.specs.declared.entry.Plain.{Plain}
 use Rattle.history.specs.declared.entry.Plain.TheVariants as plain
 use Rattle.history.specs.declared.entry.Request.{Request}
-use Rattle.history.specs.declared.entry.Request.TheVariants as request
 use Rattle.history.specs.Replies.{Answers}
 use Rattle.target_code.specs.declared.line.Line.{Line}
 use Rattle.target_code.specs.declared.line.Line.TheVariants as line

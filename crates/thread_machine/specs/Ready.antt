@@ -1,5 +1,5 @@
 -- A machine that has the memory for its next part.
-use Rattle.std.specs.Prelude.{ℕ, ◌+◌, ◌^◌, ◌<◌, ◌≤◌, ◌≡◌, List, [], ◌∷◌, Option, None, Some, Bool, true}
+use Rattle.std.specs.Prelude.{ℕ, ◌+◌, ◌^◌, ◌<◌, ◌≤◌, ◌≡◌, List, ◌∷◌, Option, None, Some, true}
 use Rattle.ir_ast.specs.declared.types.Place.{Place}
 use Rattle.ir_ast.specs.declared.types.Place.TheVariants.{Stack, Heap}
 use Rattle.perm_table.specs.declared.Guard.{Guard}

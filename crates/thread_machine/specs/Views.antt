@@ -1,16 +1,13 @@
 -- What contracts see of a running thread: its definition's state, and for how much more there is memory.
-use Rattle.std.specs.Prelude.{ℕ, ◌+◌, ◌*◌, ◌^◌, ◌<◌, ◌≤◌, ◌≡◌, List, [], ◌∷◌, Option, None, Some, IfSome, Result, Ok, Err, Bool, true, false, get_or, drop, slice_get}
+use Rattle.std.specs.Prelude.{ℕ, ◌<◌, ◌≤◌, ◌≡◌, List, [], ◌∷◌, Option, None, Some, IfSome, Result, Ok, Err, Bool, true, false, get_or, drop, slice_get}
 use Rattle.ir_ast.specs.Tokens.{Each}
-use Rattle.ir_ast.specs.declared.types.Place.{Place}
-use Rattle.ir_ast.specs.declared.types.Place.TheVariants.{Stack, Heap}
-use Rattle.perm_table.specs.declared.Guard.{Guard}
-use Rattle.perm_table.specs.declared.Guard.TheVariants.{Free}
 use Rattle.target_code.specs.declared.line.Line.{Line}
 use Rattle.target_code.specs.declared.line.Line.TheVariants as line
 use Rattle.target_code.specs.declared.line.TargetFunction.{TargetFunction}
 use Rattle.target_code.specs.declared.line.Target.{Target}
 use Rattle.history.specs.declared.ask.Ask.{Ask}
 use Rattle.history.specs.declared.ask.Ask.TheVariants as ask
+use Rattle.history.specs.declared.ask.MachineEnd.{MachineEnd}
 use Rattle.history.specs.declared.entry.Plain.{Plain}
 use Rattle.history.specs.declared.entry.Plain.TheVariants as plain
 use Rattle.history.specs.declared.trap.Trap.TheVariants as trap
@@ -21,7 +18,7 @@ use Rattle.thread_parts.specs.Words.{plain_arg}
 use Rattle.thread_parts.specs.Parts.{Part, Gives, Fails, makes_step}
 use Rattle.thread_parts.specs.Copies.{Progress, untouched}
 use Rattle.thread_parts.specs.Owned.{nothing_owned}
-use Rattle.thread_machine.specs.Thread.{TargetSetting, Row, empty_row, TargetFrame, Thread, at_lines, first_lines, frame_at, turn_number}
+use Rattle.thread_machine.specs.Thread.{TargetSetting, Row, empty_row, TargetFrame, Thread, at_lines, first_lines, frame_at}
 
 -- ---- what there is memory for
 
@@ -171,6 +168,11 @@ called t f = record t { top = record f { handed = t.row; owned = nothing_owned }
 abbrev pub IsSpawn : Ask → Type 0
 IsSpawn (ask.Spawn k) = Unit {0}
 IsSpawn other = ⊥
+
+-- how a thread has ended that asks this, if it has
+abbrev pub ended_by : Ask → Option MachineEnd
+ended_by (ask.Ended e) = Some e
+ended_by other = None
 
 -- ---- replies
 

@@ -1,11 +1,11 @@
 //! What a thread asks.
-ghost use Rattle.std.specs.Prelude.{List, ◌≡◌, [], ◌∷◌, drop, IfOk, OnErr, IfSome, IfNone};
+ghost use Rattle.std.specs.Prelude.{List, Option, ℕ, ◌≡◌, [], ◌∷◌, drop, IfOk, OnErr, IfSome, IfNone};
 ghost use Rattle.history.specs.declared.ask.Ask.TheVariants as asked;
 ghost use Rattle.history.specs.declared.ask.MachineEnd.TheVariants as ending;
 ghost use Rattle.thread_parts.specs.Parts.{binary_part, make_part, nth_value, part_ask, retag_ask as asked_retag};
 ghost use Rattle.thread_parts.specs.Asks.{AsksAllocation};
 ghost use Rattle.thread_machine.specs.Thread.{free_part, lines_ask, operand_at, operands_at, pointer_at, read_part, version_ask, write_part};
-ghost use Rattle.thread_machine.specs.Views.{IsPlainLine};
+ghost use Rattle.thread_machine.specs.Views.{IsPlainLine, ended_by};
 
 use crate::frame::Frame;
 use crate::state::ThreadState;
@@ -170,6 +170,38 @@ impl<'p> Frame<'p> {
 }
 
 impl<'p> Frame<'p> {
+    /// The end of the thread after a check of a read, where no load follows.
+    fn read_end(&self) -> Option<MachineEnd>
+        ensures { (shadow : ℕ) → result ≡ ended_by (part_ask (read_part self.now shadow (drop 1 self.now.rest))) }
+    {
+        match self.line_after() {
+            Some(Line::Load { .. }) => None,
+            _ => Some(MachineEnd::Trapped(Trap::Unreachable)),
+        }
+    }
+
+    /// The end of the thread after a check of a free, where no free follows.
+    fn free_end(&self) -> Option<MachineEnd>
+        ensures { (shadow : ℕ) → result ≡ ended_by (part_ask (free_part self.now shadow (drop 1 self.now.rest))) }
+    {
+        match self.line_after() {
+            Some(Line::Free { .. }) => None,
+            _ => Some(MachineEnd::Trapped(Trap::Unreachable)),
+        }
+    }
+
+    /// The end of the thread after a check of a write, where nothing is written.
+    fn write_end(&self) -> Option<MachineEnd>
+        ensures { (stored : Option Prov) (shadow : ℕ) → result ≡ ended_by (part_ask (write_part self.now stored shadow (drop 1 self.now.rest))) }
+    {
+        match self.line_after() {
+            Some(Line::Store { .. } | Line::Modify { .. } | Line::CmpXchg { .. }) => None,
+            _ => Some(MachineEnd::Trapped(Trap::Unreachable)),
+        }
+    }
+}
+
+impl<'p> Frame<'p> {
     /// The word of an operand of a list, and 0 where there is none.
     #[tactic(auto, using(crate::proofs::Asked::operand_at_place, crate::proofs::Asked::no_operand))]
     fn operand_word(&self, operands: &[Operand], index: usize) -> u64
@@ -295,6 +327,26 @@ impl<'p> ThreadState<'p> {
                 self.copying.ask(target, source, self.top.operand(*len))
             }
             Some(line) => Ok(self.line_ask(version, line)),
+        }
+    }
+    /// How the thread has ended, if it does nothing more. It takes no memory.
+    #[tactic(auto, using(crate::proofs::Asked::asks_at, crate::proofs::Asked::asks_nothing, crate::proofs::Asked::asks_over, crate::proofs::Asked::copy_goes))]
+    pub fn ended(&self, version: u8) -> Option<MachineEnd>
+        ensures { result ≡ ended_by (version_ask version self.now.thread) }
+    {
+        if let Some(end) = self.over {
+            return Some(end);
+        }
+        match self.top.next_line() {
+            None => Some(MachineEnd::Trapped(Trap::Unreachable)),
+            Some(Line::CheckRead { .. }) => self.top.read_end(),
+            Some(Line::CheckWrite { .. }) => self.top.write_end(),
+            Some(Line::CheckFree { .. }) => self.top.free_end(),
+            Some(Line::Turn { .. } | Line::CheckCopy { .. }) => None,
+            Some(line) => match self.line_ask(version, line) {
+                Ask::Ended(end) => Some(end),
+                _ => None,
+            },
         }
     }
 }

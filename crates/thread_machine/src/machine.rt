@@ -5,14 +5,15 @@ ghost use Rattle.history.specs.Replies.{Answers};
 ghost use Rattle.thread_parts.specs.Fits.{ReplyFits};
 ghost use Rattle.thread_parts.specs.Asks.{AsksAllocation};
 ghost use Rattle.thread_machine.specs.Thread.{row_of, thread_answer, thread_ask, thread_begins, thread_child, thread_site, thread_start, thread_turn};
-ghost use Rattle.thread_machine.specs.Views.{IsSpawn, setting};
+ghost use Rattle.thread_machine.specs.Views.{FitsTarget, IsSpawn, ended_by, setting};
 
 use crate::calls::Spare;
 use crate::row::ArgRow;
 use crate::starts::first_state;
 use crate::state::ThreadState;
+use crate::width::target_width;
 use bsan_ids::NoMemory;
-use history::{Arg, Ask, Entry};
+use history::{Arg, Ask, Entry, MachineEnd};
 use std::alloc::Global;
 use std::marker::Model;
 use target_code::{Line, Target};
@@ -42,7 +43,8 @@ impl<'p> Model for Machine<'p> {
 }
 
 impl<'p> Machine<'p> {
-    /// A thread at the beginning of a function, with this row of arguments.
+    /// A thread at the beginning of a function, with this row of arguments. `width` is enough for each row that the
+    /// code writes.
     ///
     /// # Errors
     ///
@@ -53,11 +55,13 @@ impl<'p> Machine<'p> {
         target: &'p Target,
         function: u32,
         row: ArgRow,
+        width: usize,
         input: &'p [u8],
     ) -> Result<Machine<'p>, NoMemory>
+        requires { FitsTarget width target.now }
         ensures { IfOk result (λ m. m ≡ record { setting = setting target.now input.now; thread = thread_start (setting target.now input.now) function row.row; prepared = false }) }
     {
-        let mut state = first_state(alloc, target, function, row)?;
+        let mut state = first_state(alloc, target, function, row, width)?;
         state.go_on(input);
         Ok(Machine {
             target,
@@ -84,7 +88,8 @@ impl<'p> Machine<'p> {
         ensures { IfOk result (λ m. m ≡ record { setting = setting target.now input.now; thread = thread_start (setting target.now input.now) function (row_of args.now); prepared = false }) }
     {
         let row = ArgRow::of_args(alloc, args)?;
-        Machine::begin(alloc, target, function, row, input)
+        let width = target_width(target);
+        Machine::begin(alloc, target, function, row, width, input)
     }
 
     /// What the thread does next.
@@ -97,6 +102,13 @@ impl<'p> Machine<'p> {
         ensures refused { OnErr result (AsksAllocation (thread_ask self.now.setting self.now.thread)) }
     {
         self.state.ask(self.target.version)
+    }
+
+    /// How the thread has ended, if it does nothing more. It takes no memory.
+    pub fn ended(&self) -> Option<MachineEnd>
+        ensures { result ≡ ended_by (thread_ask self.now.setting self.now.thread) }
+    {
+        self.state.ended(self.target.version)
     }
 
     /// Whether an instruction would begin.
@@ -169,14 +181,15 @@ impl<'p> Machine<'p> {
         ensures { IfOk result (λ m. m ≡ record self.now { thread = thread_child self.now.setting self.now.thread; prepared = false }) }
     {
         let alloc = *self.state.callers.allocator();
+        let width = self.state.row.width();
         match self.state.top.next_line() {
             Some(Line::Spawn { function, .. }) => {
                 let row = self.state.row.copy()?;
-                Machine::begin(alloc, self.target, *function, row, self.input)
+                Machine::begin(alloc, self.target, *function, row, width, self.input)
             }
             _ => {
                 let row = ArgRow::new(alloc, 0)?;
-                Machine::begin(alloc, self.target, 0, row, self.input)
+                Machine::begin(alloc, self.target, 0, row, width, self.input)
             }
         }
     }

@@ -2,14 +2,13 @@
 ghost use Rattle.std.specs.Prelude.{◌≡◌, slice_get, IfOk, Some};
 ghost use Rattle.thread_machine.specs.Thread.{block_at, turn_number as first_number};
 ghost use Rattle.thread_machine.specs.Ready.{HasSpare};
-ghost use Rattle.thread_machine.specs.Views.{FitsTarget, begun_frame, entry_of, first_thread, slots_of};
+ghost use Rattle.thread_machine.specs.Views.{begun_frame, entry_of, first_thread, slots_of};
 
 use crate::calls::Spare;
 use crate::copying::CopyProgress;
 use crate::frame::Frame;
 use crate::row::ArgRow;
 use crate::state::ThreadState;
-use crate::width::target_width;
 use bsan_ids::NoMemory;
 use history::Arg;
 use std::alloc::Global;
@@ -112,7 +111,7 @@ pub(crate) fn new_spare<'p>(
     })
 }
 
-/// A thread in front of a function's first line.
+/// A thread in front of a function's first line, whose rows have this width.
 ///
 /// # Errors
 ///
@@ -122,11 +121,11 @@ pub(crate) fn first_state<'p>(
     target: &'p Target,
     function: u32,
     handed: ArgRow,
+    width: usize,
 ) -> Result<ThreadState<'p>, NoMemory>
     ensures thread { IfOk result (λ s. s.thread ≡ first_thread target.now function handed.row) }
-    ensures width { IfOk result (λ s. FitsTarget s.width target.now) }
+    ensures width { IfOk result (λ s. s.width ≡ width) }
 {
-    let width = target_width(target);
     Ok(ThreadState {
         top: new_frame(alloc, target, function, handed)?,
         owned: Owned::new(alloc),

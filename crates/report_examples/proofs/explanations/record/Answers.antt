@@ -1,6 +1,6 @@
 use Rattle.std.proofs.Common.{◌∙◌, refl}
-use Rattle.explain.proofs.Samples.{one_of_each}
-use Rattle.explain.proofs.tests.record.Goals as goal
+use Rattle.report_examples.proofs.Distinct.{one_of_each}
+use Rattle.report_examples.proofs.explanations.record.Goals as goal
 
 pub returns-clause-distinct : goal.returns-clause-distinct
 returns-clause-distinct c =

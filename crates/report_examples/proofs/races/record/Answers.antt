@@ -1,6 +1,6 @@
 use Rattle.std.proofs.Common.{◌∙◌}
-use Rattle.race_check.proofs.Samples.{one_log}
-use Rattle.race_check.proofs.tests.record.Goals as goal
+use Rattle.report_examples.proofs.Distinct.{one_log}
+use Rattle.report_examples.proofs.races.record.Goals as goal
 
 pub returns : goal.returns
 returns c =

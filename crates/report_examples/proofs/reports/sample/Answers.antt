@@ -1,9 +1,9 @@
-use Rattle.report.proofs.Samples.{sample_reportable}
-use Rattle.report.proofs.tests.sample.Goals as goal
+use Rattle.report_examples.proofs.Reportable.{two_threads}
+use Rattle.report_examples.proofs.reports.sample.Goals as goal
 
 pub returns : goal.returns
 returns c =
-    sample_reportable c.record_of.result c.thread_log-main.result c.thread_log-child.result c.alloc_log-first.result c.alloc_log-second.result
+    two_threads c.record_of.result c.thread_log-main.result c.thread_log-child.result c.alloc_log-first.result c.alloc_log-second.result
     c.step-make.result c.step-late.result c.step-early.result c.write_violation.result c.write_violation-2.result c.write_violation-3.result
     (cc (c.record_of.ensures.threads, c.in_ok-vec-5.ensures.items))
     (cc (c.thread_log-main.ensures, c.in_ok-vec.ensures.items))

@@ -1,9 +1,9 @@
-use Rattle.suppress.proofs.Samples.{sample_reportable}
-use Rattle.suppress.proofs.tests.sample.Goals as goal
+use Rattle.report_examples.proofs.Reportable.{one_thread}
+use Rattle.report_examples.proofs.rules.sample.Goals as goal
 
 pub returns : goal.returns
 returns c =
-    sample_reportable c.record_of.result c.main_log-main.result c.alloc_log-first.result c.alloc_log-second.result
+    one_thread c.record_of.result c.main_log-main.result c.alloc_log-first.result c.alloc_log-second.result
     c.make.result c.make-2.result c.frozen.result c.frozen-2.result c.frozen-3.result
     (cc (c.record_of.ensures.threads, c.in_ok-vec-4.ensures.items))
     (cc (c.main_log-main.ensures, c.in_ok-vec.ensures.items))

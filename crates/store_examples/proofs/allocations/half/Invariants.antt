@@ -1,5 +1,5 @@
 use Rattle.std.proofs.Common.{◌≡◌, length}
-use Rattle.alloc_state.proofs.tests.half.Given as goal
+use Rattle.store_examples.proofs.allocations.half.Given as goal
 
 abbrev pub invariant-loop-i : goal.invariant-loop-i
 invariant-loop-i l = length l.piece ≡ l.i

@@ -2,7 +2,7 @@ use Rattle.std.proofs.Common.{◌≡◌, ℕ, suc, ◌<◌, Some, List, [], ◌�
 use Rattle.std.specs.Prelude.{◌+◌}
 use Rattle.std.proofs.lemmas.Bool.{cases_lt}
 use Rattle.ir_ast.specs.Tokens.{Each}
-use Rattle.alloc_state.proofs.tests.holds_bytes.Given as goal
+use Rattle.store_examples.proofs.allocations.holds_bytes.Given as goal
 
 -- P holds of the items below a place
 abbrev pub HoldsBelow : {A : Type 0} → (A → Type 0) → ℕ → List A → Type 0

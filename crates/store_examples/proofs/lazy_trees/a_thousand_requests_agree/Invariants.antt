@@ -1,6 +1,6 @@
 use Rattle.std.proofs.Common.{◌≡◌}
 use Rattle.lazy_tree.specs.Eager.{eager_of}
-use Rattle.lazy_access.proofs.tests.a_thousand_requests_agree.Given as goal
+use Rattle.store_examples.proofs.lazy_trees.a_thousand_requests_agree.Given as goal
 
 abbrev pub invariant-rounds : goal.invariant-rounds
 invariant-rounds g l = l.eager.tree ≡ eager_of l.lazy

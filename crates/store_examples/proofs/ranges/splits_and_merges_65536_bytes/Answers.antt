@@ -1,6 +1,6 @@
 use Rattle.std.proofs.Common.{arith, ap, length, ℕ}
 use Rattle.std.proofs.lemmas.List.{length-replicate}
-use Rattle.range_map.proofs.tests.splits_and_merges_65536_bytes.Goals as goal
+use Rattle.store_examples.proofs.ranges.splits_and_merges_65536_bytes.Goals as goal
 
 pub run_end-end-requires : goal.run_end-end-requires
 run_end-end-requires g c =

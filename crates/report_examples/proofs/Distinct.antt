@@ -48,10 +48,31 @@ none_distinct : IsDistinct nat_eq []
 unfolding IsDistinct
 none_distinct = tt
 
+thread_distinct : (log : ThreadLog) (es : List Entry) → log.entries ≡ es → IsStrictlyIncreasing (map stamp_of es)
+    → IsDistinct nat_eq (map stamp_of (flat_map (λ (l : ThreadLog). l.entries) (log ∷ [])))
+thread_distinct log es is up = subst (λ (xs : List Entry). IsDistinct nat_eq (map stamp_of xs)) (sym (append-nil log.entries ∙ is)) (rising_distinct (map stamp_of es) up)
+
+alloc_distinct : (log : AllocLog) (es : List Entry) → log.entries ≡ es → IsStrictlyIncreasing (map stamp_of es)
+    → IsDistinct nat_eq (map stamp_of (flat_map (λ (l : AllocLog). l.entries) (log ∷ [])))
+alloc_distinct log es is up = subst (λ (xs : List Entry). IsDistinct nat_eq (map stamp_of xs)) (sym (append-nil log.entries ∙ is)) (rising_distinct (map stamp_of es) up)
+
+of_threads : (kept : RunRecord) (log : ThreadLog) (es : List Entry) → kept.threads ≡ log ∷ [] → log.entries ≡ es → IsStrictlyIncreasing (map stamp_of es)
+    → IsDistinct nat_eq (map stamp_of (flat_map (λ (l : ThreadLog). l.entries) kept.threads))
+of_threads kept log es threads is up =
+    subst (λ (logs : List ThreadLog). IsDistinct nat_eq (map stamp_of (flat_map (λ (l : ThreadLog). l.entries) logs))) (sym threads) (thread_distinct log es is up)
+
+-- one log, which is a thread's
 pub one_log : (kept : RunRecord) (log : ThreadLog) (es : List Entry) → kept.threads ≡ log ∷ [] → kept.allocs ≡ [] → log.entries ≡ es
     → IsStrictlyIncreasing (map stamp_of es) → HasDistinctStamps kept
 one_log kept log es threads allocs is up = record {
-  threads = subst (λ (xs : List Entry). IsDistinct nat_eq (map stamp_of xs))
-      (sym (ap (flat_map (λ (l : ThreadLog). l.entries)) threads ∙ append-nil log.entries ∙ is)) (rising_distinct (map stamp_of es) up);
+  threads = of_threads kept log es threads is up;
   allocs = subst (λ (logs : List AllocLog). IsDistinct nat_eq (map stamp_of (flat_map (λ (l : AllocLog). l.entries) logs))) (sym allocs) none_distinct;
+}
+
+-- one allocation's log, which is all that one thread did
+pub one_of_each : (kept : RunRecord) (thread : ThreadLog) (log : AllocLog) (es : List Entry) → kept.threads ≡ thread ∷ [] → kept.allocs ≡ log ∷ []
+    → thread.entries ≡ es → log.entries ≡ es → IsStrictlyIncreasing (map stamp_of es) → HasDistinctStamps kept
+one_of_each kept thread log es threads allocs own whole up = record {
+  threads = of_threads kept thread es threads own up;
+  allocs = subst (λ (logs : List AllocLog). IsDistinct nat_eq (map stamp_of (flat_map (λ (l : AllocLog). l.entries) logs))) (sym allocs) (alloc_distinct log es whole up);
 }
