@@ -2,7 +2,7 @@
 ghost use Rattle.std.specs.Prelude.{◌≡◌, IfOk};
 
 use bsan_ids::NoMemory;
-use history::{Ask, Entry};
+use history::{Ask, Entry, MachineEnd};
 use instr_sound::Thread;
 use std::alloc::Global;
 use std::marker::Model;
@@ -58,6 +58,10 @@ impl<T: Thread> Thread for Boxed<T> {
 
     fn ask(&self) -> Result<Ask, NoMemory> {
         self.machine.ask()
+    }
+
+    fn ended(&self) -> Option<MachineEnd> {
+        self.machine.ended()
     }
 
     fn prepare(&mut self) -> Result<(), NoMemory> {
