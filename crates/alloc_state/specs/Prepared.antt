@@ -7,7 +7,8 @@ use Rattle.history.specs.declared.entry.Request.TheVariants.{Make}
 use Rattle.history.specs.Objects.{Object, unmade}
 use Rattle.lazy_tree.specs.Shape.{Shape}
 use Rattle.alloc_state.specs.PlainValues.{PlainValue}
-use Rattle.alloc_state.specs.MadeValues.{MadeValue, made_in, IsPrepared}
+use Rattle.alloc_state.specs.Asking.{asked}
+use Rattle.alloc_state.specs.MadeValues.{MadeValue, made_of, made_in, IsPrepared}
 use Rattle.alloc_state.specs.Outcomes.{HasBytesOut}
 use Rattle.alloc_state.specs.declared.object_state.Ready.{Ready}
 
@@ -46,7 +47,8 @@ IsFreshFor request fresh = fresh ≡ None
 
 -- all that the request which is ready needs is there
 pub record IsReady (number : ℕ) (made : Option MadeValue) (ready : Ready) : Type 0 where
-  pub fresh : IsFreshFor ready.request ready.fresh
+  pub fresh : IsFreshFor ready.request ready.needs.fresh
+  pub asked : MatchOption made (Unit {0}) (λ v. ready.needs.asks ≡ asked number (made_of v) ready.request)
   pub piece : HasBytesOut (made_in made) ready.request ready.piece
   pub again : ready.again ≡ ready.piece
   pub room : MatchOption made (Unit {0}) (λ v. IsPrepared number v ready.request)

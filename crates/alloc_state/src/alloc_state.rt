@@ -64,6 +64,8 @@ impl AllocState {
     /// # Errors
     ///
     /// `NoMemory`: out of memory. The entries and a request that was prepared before stay.
+    // inlined, since it is little beside the call of the object
+    #[inline(always)]
     pub fn prepare(&mut self, request: &Request) -> Result<(), NoMemory>
         requires { IsTrue (fits request.now) }
         ensures ok { OnOk result (self.new ≡ record self.old { ready = Some request.now; visits = self.new.visits }) }
@@ -82,6 +84,8 @@ impl AllocState {
     /// comes only where there is none among them. It takes no memory. A repeat of the last access, where
     /// that was neither refused nor denied, raises the counter of the tree by at most the ring of its node
     /// times the pieces of its span.
+    // inlined, since a call moves the request and the entry once more
+    #[inline(always)]
     pub fn commit(&mut self, thread: ThreadNo, stamp: Stamp, site: u32, request: Request) -> Entry
         requires ready { self.old.ready ≡ Some request }
         requires later { All (λ e. e.stamp.0 < stamp.0) self.old.entries }

@@ -92,23 +92,38 @@ impl MadeState {
         self.plain.piece(alloc, at, len)
     }
 
-    /// Takes all memory that `step` needs for a request.
+    /// Takes all memory that `step` needs for a request, and answers what the request asks the tree, or
+    /// the verdict on it where the tree isn't asked.
     ///
     /// # Errors
     ///
     /// `NoMemory`: out of memory. The allocation is as before, and what was prepared stays so.
-    pub fn prepare(&mut self, number: AllocNo, request: &Request) -> Result<(), NoMemory>
+    pub fn prepare(
+        &mut self,
+        number: AllocNo,
+        request: &Request,
+    ) -> Result<Result<TreeRequest, Verdict>, NoMemory>
         requires { IsTrue (fits request.now) }
         ensures ok { OnOk result (IsPrepared number.0 self.new request.now) }
+        ensures asks { IfOk result (λ asks. asks ≡ asked number.0 (made_of self.new) request.now) }
         ensures err { OnErr result (KeepsPrepared number.0 self.old self.new) }
         ensures made { made_of self.new ≡ made_of self.old }
         ensures taken { IsRoomTaken self.old.tree self.new.tree (asked number.0 (made_of self.old) request.now) }
     {
         self.plain.reserve(request)?;
-        match self.asks(number, request) {
-            Ok(asks) => lazy_access::prepare(&mut self.tree, &asks),
-            Err(_) => Ok(()),
+        let asks = self.asks(number, request);
+        if let Ok(asked) = &asks {
+            lazy_access::prepare(&mut self.tree, asked)?;
         }
+        Ok(asks)
+    }
+
+    // Tells the caller's proof that the tree has as many bytes as there are. Nothing is done.
+    fn sizes(&self)
+        ensures { length self.now.plain.memory.bytes ≡ self.now.tree.size }
+    {
+        // read, so that the proof knows what the allocation's type keeps
+        let _ = &self.tree;
     }
 
     // The node through which a provenance may use this allocation. Without one it is a stranger's.
@@ -178,8 +193,7 @@ impl MadeState {
 
     // What a request asks the tree, or the verdict on it where the tree isn't asked.
     fn asks(&self, number: AllocNo, request: &Request) -> Result<TreeRequest, Verdict>
-        ensures asks { result ≡ asked number.0 (made_of self.now) request.now }
-        ensures size { length self.now.plain.memory.bytes ≡ self.now.tree.size }
+        ensures { result ≡ asked number.0 (made_of self.now) request.now }
     {
         if self.closed {
             return Err(Verdict::Closed);
@@ -250,18 +264,25 @@ impl MadeState {
         verdict
     }
 
-    /// Answers a request other than a Make, after `prepare` for it. The tag of a new node is the stamp,
-    /// which is greater than each tag of the tree. It takes no memory.
-    pub fn step(&mut self, number: AllocNo, request: &Request, stamp: Stamp) -> Outcome
+    /// Answers a request other than a Make, after `prepare` for it answered what it asks the tree. The tag
+    /// of a new node is the stamp, which is greater than each tag of the tree. It takes no memory.
+    pub fn step(
+        &mut self,
+        number: AllocNo,
+        request: &Request,
+        asks: Result<TreeRequest, Verdict>,
+        stamp: Stamp,
+    ) -> Outcome
         requires make { is_make request.now ≡ false }
         requires fitting { IsTrue (fits request.now) }
         requires prepared { IsPrepared number.0 self.old request.now }
+        requires asked { asks ≡ asked number.0 (made_of self.old) request.now }
         requires newest { All (λ n. n.tag.0 < stamp.0) (eager_of self.old.tree).nodes }
         ensures answer { (piece : List Byte) → HasBytesOut (Some (made_of self.old)) request.now piece → record { reply = reply_with piece result; object = object_of number.0 self.new } ≡ answer (object_of number.0 self.old) request.now stamp }
         ensures counted { IsStepCounted number.0 self.old self.new request.now result.verdict }
     {
+        self.sizes();
         let new = Tag(stamp.0);
-        let asks = self.asks(number, request);
         match request {
             Request::Retag { prov, .. } => {
                 let verdict = self.judge(asks, new);

@@ -5,7 +5,8 @@ ghost use Rattle.history.specs.Objects.{answer};
 ghost use Rattle.history.specs.Histories.{fits};
 ghost use Rattle.lazy_tree.specs.Eager.{eager_of};
 ghost use Rattle.history.specs.Pieces.{Byte};
-ghost use Rattle.alloc_state.specs.MadeValues.{made_in, object_in, IsPrepared};
+ghost use Rattle.alloc_state.specs.Asking.{asked};
+ghost use Rattle.alloc_state.specs.MadeValues.{made_of, made_in, object_in, IsPrepared};
 ghost use Rattle.alloc_state.specs.Outcomes.{reply_with, HasBytesOut};
 ghost use Rattle.alloc_state.specs.Prepared.{AreBelow, IsFreshFor, is_made_in, unasked};
 ghost use Rattle.alloc_state.specs.Repeats.{IsPrepareCounted, IsRunCounted};
@@ -15,16 +16,25 @@ use crate::outcome::{Outcome, Seen};
 use crate::plain_mem::PlainMem;
 use bsan_ids::{AllocNo, Copied, NoMemory, Prov, Stamp, Tag};
 use history::{Piece, Reply, Request, Verdict};
+use lazy_access::TreeRequest;
 use lazy_tree::LazyTree;
 use std::alloc::Global;
 use std::marker::Model;
 
-/// The request for which memory was taken: a copy of it, the memory of the allocation that it makes, and
-/// the bytes that it copies out, twice.
+/// What a request needs besides the allocation: the memory of the one that it makes, and what it asks the
+/// tree, or the verdict on it where the tree isn't asked.
+#[derive(Drop)]
+pub struct Needs {
+    fresh: Option<PlainMem>,
+    asks: Result<TreeRequest, Verdict>,
+}
+
+/// The request for which memory was taken: a copy of it, what it needs, and the bytes that it copies out,
+/// twice.
 #[derive(Drop)]
 pub struct Ready {
     request: Request,
-    fresh: Option<PlainMem>,
+    needs: Needs,
     piece: Piece,
     again: Piece,
 }
@@ -69,14 +79,23 @@ fn fresh_for(alloc: Global, request: &Request) -> Result<Option<PlainMem>, NoMem
     }
 }
 
-/// The bytes that a request copies out, where it does and isn't refused.
-fn piece_for(alloc: Global, made: &Option<MadeState>, request: &Request) -> Result<Piece, NoMemory>
+/// The bytes that a request copies out, where it does and isn't refused, and a copy of them.
+fn pieces_for(
+    alloc: Global,
+    made: &Option<MadeState>,
+    request: &Request,
+) -> Result<(Piece, Piece), NoMemory>
     requires { IsTrue (fits request.now) }
-    ensures { IfOk result (HasBytesOut (made_in made.now) request.now) }
+    ensures bytes { IfOk result (λ pieces. HasBytesOut (made_in made.now) request.now pieces.0) }
+    ensures twice { IfOk result (λ pieces. pieces.1 ≡ pieces.0) }
 {
     match (made, request) {
-        (Some(made), Request::CopyOut { at, len, .. }) => made.piece(alloc, *at, *len),
-        _ => Ok(Piece::new(alloc)),
+        (Some(made), Request::CopyOut { at, len, .. }) => {
+            let piece = made.piece(alloc, *at, *len)?;
+            let again = piece.copy()?;
+            Ok((piece, again))
+        }
+        _ => Ok((Piece::new(alloc), Piece::new(alloc))),
     }
 }
 
@@ -85,17 +104,19 @@ fn outcome_of(
     number: AllocNo,
     alloc: Global,
     made: &mut Option<MadeState>,
-    fresh: Option<PlainMem>,
+    needs: Needs,
     request: &Request,
     stamp: Stamp,
 ) -> Outcome
-    requires fresh { IsFreshFor request.now fresh }
+    requires fresh { IsFreshFor request.now needs.fresh }
+    requires asked { MatchOption made.old (Unit {0}) (λ v. needs.asks ≡ asked number.0 (made_of v) request.now) }
     requires room { MatchOption made.old (Unit {0}) (λ v. IsPrepared number.0 v request.now) }
     requires newest { AreBelow stamp.0 (object_in number.0 made.old) }
     requires fitting { IsTrue (fits request.now) }
     ensures counted { IsRunCounted number.0 (made_in made.old) (option_map (λ v. v.tree) made.old) (option_map (λ v. v.tree) made.new) request.now result.verdict }
     ensures answer { (piece : List Byte) → HasBytesOut (made_in made.old) request.now piece → record { reply = reply_with piece result; object = object_in number.0 made.new } ≡ answer (object_in number.0 made.old) request.now stamp }
 {
+    let Needs { fresh, asks } = needs;
     if let Some(fresh) = fresh {
         let tag = Tag(stamp.0);
         *made = Some(MadeState::new(alloc, fresh, tag));
@@ -106,7 +127,7 @@ fn outcome_of(
         };
     }
     match made {
-        Some(made) => made.step(number, request, stamp),
+        Some(made) => made.step(number, request, asks, stamp),
         None => Outcome::unmade(request),
     }
 }
@@ -157,14 +178,14 @@ impl ObjectState {
         let number = self.number;
         let copy = request.copy()?;
         let fresh = fresh_for(alloc, request)?;
-        let piece = piece_for(alloc, &self.made, request)?;
-        let again = piece.copy()?;
-        if let Some(made) = &mut self.made {
-            made.prepare(number, request)?;
-        }
+        let (piece, again) = pieces_for(alloc, &self.made, request)?;
+        let asks = match &mut self.made {
+            Some(made) => made.prepare(number, request)?,
+            None => Err(Verdict::Clean),
+        };
         self.ready = Some(Ready {
             request: copy,
-            fresh,
+            needs: Needs { fresh, asks },
             piece,
             again,
         });
@@ -189,11 +210,11 @@ impl ObjectState {
         };
         let Ready {
             request: copy,
-            fresh,
+            needs,
             piece,
             again,
         } = ready;
-        let outcome = outcome_of(self.number, alloc, &mut self.made, fresh, request, stamp);
+        let outcome = outcome_of(self.number, alloc, &mut self.made, needs, request, stamp);
         Ran {
             request: copy,
             reply: outcome.reply(piece),

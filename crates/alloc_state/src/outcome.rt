@@ -63,6 +63,8 @@ impl Outcome {
     }
 
     /// The reply, with the bytes that were copied out, where some were.
+    // inlined, since a call moves the outcome and the piece once more
+    #[inline(always)]
     pub fn reply(self, piece: Piece) -> Reply
         ensures { result ≡ reply_with piece self }
     {

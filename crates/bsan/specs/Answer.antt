@@ -38,6 +38,7 @@ use Rattle.bsan.specs.Seen.{FilesSeen, SinkSeen, Failed, WasTooLong, WasRead, Pu
 use Rattle.bsan.specs.Lines.{usage_text, file_fault_line, too_long_line, fault_line, rule_line, rules_line, load_text, accepted_line}
 use Rattle.bsan.specs.Runs.{IsScheduledRun, IsNativeRun, IsOfRun}
 use Rattle.bsan.specs.Rules.{AreRulesIn, IsRefusedAt, OfRead}
+use Rattle.bsan.specs.declared.outcome.Role.{Role}
 use Rattle.bsan.specs.declared.outcome.Role.TheVariants as role
 use Rattle.bsan.specs.declared.outcome.Outcome.{Outcome}
 use Rattle.bsan.specs.declared.outcome.Outcome.TheVariants.{Usage, FileFault, TooLong, NotRead, NotVerified, RulesRefused, Accepted, Instrumented, Ran, Loaded, Hushed, Raced, Traced}
@@ -47,11 +48,11 @@ abbrev pub IsBrokenRule : VerifyFault → Outcome → Type 0
 IsBrokenRule (Refused rule at) found = found ≡ NotVerified rule at
 IsBrokenRule NoMemory found = ⊥
 
--- what was found is why the input was not read
-abbrev pub IsUnreadInput : Fault → Outcome → Type 0
-IsUnreadInput unread.Failed found = found ≡ FileFault role.Input
-IsUnreadInput unread.TooLong found = found ≡ TooLong role.Input
-IsUnreadInput unread.NoMemory found = ⊥
+-- what was found is why the file of this role was not read
+abbrev pub IsUnreadFile : Role → Fault → Outcome → Type 0
+IsUnreadFile of unread.Failed found = found ≡ FileFault of
+IsUnreadFile of unread.TooLong found = found ≡ TooLong of
+IsUnreadFile of unread.NoMemory found = ⊥
 
 -- what was found is the data races of the record
 abbrev pub IsRaced : RunRecord → Outcome → Type 0

@@ -2,8 +2,6 @@
 use Rattle.std.specs.Prelude.{◌≡◌, ℕ, List}
 use Rattle.ir_ast.specs.declared.program.Program.{Program}
 use Rattle.ir_text.specs.Bytes.{most_bytes}
-use Rattle.outside_io.specs.declared.files.FileFault.{FileFault as Fault}
-use Rattle.outside_io.specs.declared.files.FileFault.TheVariants as unread
 use Rattle.suppress.specs.Files.{AreRules, IsFault, lines_of}
 use Rattle.suppress.specs.declared.read.RulesFault.{RulesFault}
 use Rattle.suppress.specs.declared.read.RulesFault.TheVariants as rules
@@ -44,9 +42,3 @@ AreUnloaded files program file (FileFault role.Rules) = Failed files file
 AreUnloaded files program file (TooLong role.Rules) = WasTooLong files file most_bytes
 AreUnloaded files program file (RulesRefused why line) = OfRead files file (λ text. IsRefusedAt program text why line)
 AreUnloaded files program file found = ⊥
-
--- what was found is why the file with the rules was not read
-abbrev pub IsUnreadRules : Fault → Outcome → Type 0
-IsUnreadRules unread.Failed found = found ≡ FileFault role.Rules
-IsUnreadRules unread.TooLong found = found ≡ TooLong role.Rules
-IsUnreadRules unread.NoMemory found = ⊥

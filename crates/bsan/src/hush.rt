@@ -8,16 +8,16 @@ ghost use Rattle.ir_text.specs.Bytes.{most_bytes};
 ghost use Rattle.report.specs.Report.{IsReportable};
 ghost use Rattle.suppress.specs.Held as held;
 ghost use Rattle.bsan.specs.Answer.{FindsIn};
-ghost use Rattle.bsan.specs.Rules.{AreRulesIn, AreNoRules, AreUnloaded, IsUnreadRules, OfRead};
+ghost use Rattle.bsan.specs.Rules.{AreRulesIn, AreNoRules, AreUnloaded, OfRead};
 ghost use Rattle.bsan.specs.Seen.{seen_files};
 
-use crate::load::{read_file, unread_input};
+use crate::load::{read_file, unread_file, unread_input};
 use crate::native::Native;
 use crate::outcome::{LineFault, Outcome, Role};
 use bsan_ids::{Copied, NoMemory};
 use command_words::HeldRun;
 use ir_rules::Verified;
-use outside_io::{FileFault, Files, Gate};
+use outside_io::{Files, Gate};
 use run_record::RunRecord;
 use std::alloc::Global;
 use std::sync::Wait;
@@ -53,17 +53,6 @@ pub(crate) fn hushed_status(alloc: Global, rules: &Rules, kept: &RunRecord) -> R
     let copy = rules.copy()?;
     let holder = Box::new(alloc, move |case: Case| holds(&copy, case))?;
     Ok(held_status(kept, &Hold::new(rules.copy()?, holder)))
-}
-
-/// What is found where the file with the rules is not read.
-fn unread_rules(fault: FileFault) -> Result<Outcome, NoMemory>
-    ensures { IfOk result (IsUnreadRules fault) }
-{
-    match fault {
-        FileFault::Failed => Ok(Outcome::FileFault { role: Role::Rules }),
-        FileFault::TooLong => Ok(Outcome::TooLong { role: Role::Rules }),
-        FileFault::NoMemory => Err(NoMemory),
-    }
 }
 
 /// The rules of a text, for a verified program; or what is found where a line is refused.
@@ -105,7 +94,7 @@ fn load_rules<S: Files>(
     let mut text = Vec::new(alloc);
     match read_file(files, file, &mut text) {
         Ok(()) => parse_rules(alloc, text.as_slice(), verified),
-        Err(fault) => Ok(Err(unread_rules(fault)?)),
+        Err(fault) => Ok(Err(unread_file(Role::Rules, fault)?)),
     }
 }
 

@@ -1,8 +1,8 @@
 //! The files of a call: the program's, which is read and verified, and the input's.
-ghost use Rattle.std.specs.Prelude.{◌≡◌, ◌≢◌, ◌≤◌, ℕ, List, [], MatchResult, IfOk, OnOk, IsErrOf};
+ghost use Rattle.std.specs.Prelude.{◌≡◌, ◌≢◌, ◌≤◌, ℕ, List, [], MatchResult, IfOk, OnOk, OnErr, IsErrOf};
 ghost use Rattle.std.specs.Option.{option_map, IsSomeAnd};
 ghost use Rattle.ir_text.specs.Bytes.{most_bytes};
-ghost use Rattle.bsan.specs.Answer.{IsBrokenRule, IsUnreadInput, IsParsed, IsNoProgram, IsLoaded, IsUnloaded};
+ghost use Rattle.bsan.specs.Answer.{IsBrokenRule, IsUnreadFile, IsParsed, IsNoProgram, IsLoaded, IsUnloaded};
 ghost use Rattle.bsan.specs.Seen.{seen_files, Failed, WasTooLong, WasRead};
 ghost use Rattle.bsan.specs.Runs.{IsInput};
 ghost use Rattle.bsan.specs.Words.Origin.{InFile};
@@ -64,20 +64,30 @@ pub(crate) fn read_input<S: Files>(
     }
 }
 
-/// What is found where the input is not read.
-pub(crate) fn unread_input(fault: FileFault) -> Result<Outcome, NoMemory>
-    ensures { IfOk result (IsUnreadInput fault) }
+/// What is found where a file of this role is not read.
+pub(crate) fn unread_file(role: Role, fault: FileFault) -> Result<Outcome, NoMemory>
+    ensures found { IfOk result (IsUnreadFile role fault) }
+    ensures memory { OnErr result (fault ≡ FileFault.NoMemory) }
 {
     match fault {
-        FileFault::Failed => Ok(Outcome::FileFault { role: Role::Input }),
-        FileFault::TooLong => Ok(Outcome::TooLong { role: Role::Input }),
+        FileFault::Failed => Ok(Outcome::FileFault { role }),
+        FileFault::TooLong => Ok(Outcome::TooLong { role }),
         FileFault::NoMemory => Err(NoMemory),
     }
 }
 
+/// What is found where the input is not read.
+pub(crate) fn unread_input(fault: FileFault) -> Result<Outcome, NoMemory>
+    ensures found { IfOk result (IsUnreadFile Role.Input fault) }
+    ensures memory { OnErr result (fault ≡ FileFault.NoMemory) }
+{
+    unread_file(Role::Input, fault)
+}
+
 /// What is found where the program is not verified.
 fn unverified(fault: VerifyFault) -> Result<Outcome, NoMemory>
-    ensures { IfOk result (IsBrokenRule fault) }
+    ensures found { IfOk result (IsBrokenRule fault) }
+    ensures memory { OnErr result (fault ≡ VerifyFault.NoMemory) }
 {
     match fault {
         VerifyFault::Refused { rule, at } => Ok(Outcome::NotVerified { rule, at }),
@@ -89,6 +99,7 @@ fn unverified(fault: VerifyFault) -> Result<Outcome, NoMemory>
 fn unread(fault: ReadFault) -> Result<Outcome, NoMemory>
     ensures found { IfOk result (λ found. found ≡ Outcome.NotRead fault) }
     ensures refused { OnOk result (fault ≢ ReadFault.NoMemory) }
+    ensures memory { OnErr result (fault ≡ ReadFault.NoMemory) }
 {
     match fault {
         ReadFault::NoMemory => Err(NoMemory),
@@ -139,12 +150,6 @@ pub(crate) fn load<S: Files>(
     let mut text = Vec::new(alloc);
     match read_file(files, file, &mut text) {
         Ok(()) => parse(alloc, text.as_slice(), hosts),
-        Err(FileFault::Failed) => Ok(Err(Outcome::FileFault {
-            role: Role::Program,
-        })),
-        Err(FileFault::TooLong) => Ok(Err(Outcome::TooLong {
-            role: Role::Program,
-        })),
-        Err(FileFault::NoMemory) => Err(NoMemory),
+        Err(fault) => Ok(Err(unread_file(Role::Program, fault)?)),
     }
 }

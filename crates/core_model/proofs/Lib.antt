@@ -8,5 +8,6 @@ pub mod Taking
 pub mod Numbers
 pub mod SeenLists
 pub mod Settling
+pub mod OwnEnds
 pub mod Resting
 pub mod Keeping

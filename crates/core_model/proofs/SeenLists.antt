@@ -1,6 +1,7 @@
 -- The code's threads as lists, and the children that its steps start.
 use Rattle.std.proofs.Common.{◌≡◌, ℕ, zero, suc, ◌<◌, List, [], ◌∷◌, ◌++◌, true, false, refl, sym, ◌∙◌, ap, subst, length, arith, get_or}
-use Rattle.std.specs.Prelude.{Option, Some, None, is_none, slice_get, slice_set, IsTrue}
+use Rattle.std.specs.Prelude.{Option, Some, None, Box, is_none, slice_get, slice_set, IsTrue}
+use Rattle.std.specs.declared.alloc.Global.{Global}
 use Rattle.std.proofs.lemmas.Bool.{true≢false}
 use Rattle.std.proofs.lemmas.List.{map-set, map-append, length-map, length-set}
 use Rattle.std.proofs.lemmas.Option.{slice_get_read, slice_get_within}
@@ -18,7 +19,7 @@ use Rattle.core_model.specs.declared.fiber.Fiber.{Fiber}
 use Rattle.core_model.specs.Ends.{end_in, is_open, IsEndOf, pick_of}
 use Rattle.core_model.specs.declared.fiber.Took.TheVariants.{Stepped, Ended}
 use Rattle.core_model.specs.declared.run.Pick.TheVariants as pick
-use Rattle.core_model.specs.Fibers.{Seen, seen, all_seen, StartsChild, first_seen, GivesFitting, Takes}
+use Rattle.core_model.specs.Fibers.{Seen, seen, all_seen, StartsChild, first_seen, unboxed, GivesFitting, Takes}
 use Rattle.runs.specs.Objects.{objects}
 use Rattle.runs.specs.Replay.{waits}
 use Rattle.runs.specs.Threads.{AsksStep}
@@ -150,14 +151,14 @@ module _ {T : Type 0} (setting : T → Setting) (state : T → Source) where
     new_by (ask.Host i b d) y z child ys zs c = ap child_list c
     new_by (ask.Join d) y z child ys zs c = ap child_list c
 
-    pub took_step : (after : Seen) (child : Option (Fiber T)) → Takes setting state (seen setting state el) m hosts number joined a after n (Stepped child) → (over : Option End) → Rests after.setting limits after.state over
-        → (more : List Seen) → more ≡ slice_set F t (record after { «end» = over }) ++ child_list child
+    pub took_step : (after : Seen) (child : Option (Box (Fiber T) Global)) → Takes setting state (seen setting state el) m hosts number joined a after n (Stepped child) → (over : Option End) → Rests after.setting limits after.state over
+        → (more : List Seen) → more ≡ slice_set F t (record after { «end» = over }) ++ child_list (unboxed child)
         → (q : Played x) × PickedAs x limits hosts (pick_of over) p t q × UnderWay x limits hosts more n q
     took_step after child k over rests more is =
         stepped_picked x limits hosts before m p t f now a F s number joined n same_number is_end (free_here x limits hosts before m p t f now a items s joined h)
-        (seen setting state el) (seen_is x limits hosts before m p t f now a items s el item) k.0 k.1 over (subst (λ (z : Seen). Rests z.setting limits z.state over) k.2 rests) (child_list child)
-        (new_by a (setting el.thread) (state el.thread) child (setting_is x limits hosts before m p t f now a items s el item) (state_is x limits hosts before m p t f now a items s el item) k.3)
-        more (is ∙ ap (λ (z : Seen). slice_set F t (record z { «end» = over }) ++ child_list child) k.2)
+        (seen setting state el) (seen_is x limits hosts before m p t f now a items s el item) k.0 k.1 over (subst (λ (z : Seen). Rests z.setting limits z.state over) k.2 rests) (child_list (unboxed child))
+        (new_by a (setting el.thread) (state el.thread) (unboxed child) (setting_is x limits hosts before m p t f now a items s el item) (state_is x limits hosts before m p t f now a items s el item) k.3)
+        more (is ∙ ap (λ (z : Seen). slice_set F t (record z { «end» = over }) ++ child_list (unboxed child)) k.2)
 
     pub took_end : AsksStep a → (after : Seen) → Takes setting state (seen setting state el) m hosts number joined a after n Ended → (more : List Seen) → more ≡ slice_set F t after
         → (q : Played x) × PickedAs x limits hosts pick.Ended p t q × UnderWay x limits hosts more n q

@@ -1,7 +1,7 @@
 -- A started thread, as contracts see it, and what a step of it comes to.
 use Rattle.std.specs.Prelude.{◌≡◌, ℕ, ◌<◌, ◌⊎◌, List, [], ◌∷◌, ◌++◌, Some, None, map, vec_len, vec_capacity}
 use Rattle.std.specs.declared.option.Option.{Option}
-use Rattle.std.specs.Prelude.{Vec}
+use Rattle.std.specs.Prelude.{Vec, Box, option_map}
 use Rattle.std.specs.declared.alloc.Global.{Global}
 use Rattle.bsan_ids.specs.declared.numbers.ThreadNo.{ThreadNo}
 use Rattle.history.specs.declared.ask.Ask.{Ask}
@@ -55,6 +55,9 @@ abbrev pub IsFirst : {T : Type 0} → (T → Setting) → (T → Source) → See
 IsFirst setting state first None = ⊥
 IsFirst setting state first (Some f) = seen setting state f ≡ first
 
+abbrev pub unboxed : {T : Type 0} → Option (Box (Fiber T) Global) → Option (Fiber T)
+unboxed child = option_map (λ b. b.value) child
+
 -- a spawn starts a child, and no other step does
 abbrev pub StartsChild : {T : Type 0} → (T → Setting) → (T → Source) → Setting → Source → ThreadNo → Ask → Option (Fiber T) → Type 0
 StartsChild setting state x s number (ask.Spawn function) child = IsFirst setting state (first_seen x s number function) child
@@ -78,7 +81,7 @@ abbrev pub Takes : {T : Type 0} → (T → Setting) → (T → Source) → Seen 
 Takes setting state f m table number joined a g after Ended =
     (why : End) × EndsStep f m table number joined a after why × (g ≡ record f { «end» = Some why })
 Takes setting state f m table number joined a g after (Stepped child) =
-    (e : Entry) × IsStep m table number (source_site f.state) joined a after (Done e) × (g ≡ answered f e) × StartsChild setting state f.setting f.state number a child
+    (e : Entry) × IsStep m table number (source_site f.state) joined a after (Done e) × (g ≡ answered f e) × StartsChild setting state f.setting f.state number a (unboxed child)
 
 -- thread 0 before its first instruction
 abbrev pub main_fiber : {T : Type 0} → ℕ → T → Vec Entry Global → Fiber T

@@ -2,8 +2,9 @@
 ghost use Rattle.std.specs.Prelude.{◌≡◌, ◌<◌, [], IfOk, OnOk, None, vec_len, vec_capacity};
 ghost use Rattle.runs.specs.Threads.{AsksStep};
 ghost use Rattle.source_sem.specs.Source.{source_ask, source_fits};
+ghost use Rattle.thread_machine.specs.Views.{IsSpawn};
 ghost use Rattle.core_model.specs.Steps.{HasNumbers, IsAllowed, AsksHostOf, IsJoined};
-ghost use Rattle.core_model.specs.Fibers.{seen, IsReady, StartsChild, Takes, GivesFitting};
+ghost use Rattle.core_model.specs.Fibers.{seen, first_seen, unboxed, IsReady, StartsChild, Takes, GivesFitting};
 
 use crate::step::make_step;
 use bsan_ids::{NoMemory, ThreadNo};
@@ -26,10 +27,30 @@ pub(crate) struct Fiber<T> {
 /// What a step of a thread came to.
 #[derive(Drop)]
 pub(crate) enum Took<T> {
-    /// The step was made. It started this thread, if it is a spawn.
-    Stepped(Option<Fiber<T>>),
+    /// The step was made. It started this thread, if it is a spawn. A thread is large, and most steps start none.
+    Stepped(Option<Box<Fiber<T>>>),
     /// The thread has ended.
     Ended,
+}
+
+/// The child that a thread starts in a function.
+fn start_child<T: Thread>(
+    alloc: Global,
+    thread: &T,
+    number: ThreadNo,
+    function: u32,
+) -> Result<Box<Fiber<T>>, NoMemory>
+    requires { IsSpawn (source_ask (T.setting thread.now) (T.state thread.now)) }
+    ensures { IfOk result (λ child. seen T.setting T.state child.value ≡ first_seen (T.setting thread.now) (T.state thread.now) number function) }
+{
+    let child = Fiber {
+        parent: Some(number),
+        function,
+        thread: thread.child()?,
+        entries: Vec::new(alloc),
+        end: None,
+    };
+    Ok(Box::new(alloc, child)?)
 }
 
 /// The child that a thread asks to start, if it asks that.
@@ -38,18 +59,12 @@ fn child_of<T: Thread>(
     thread: &T,
     number: ThreadNo,
     ask: &Ask,
-) -> Result<Option<Fiber<T>>, NoMemory>
+) -> Result<Option<Box<Fiber<T>>>, NoMemory>
     requires { ask.now ≡ source_ask (T.setting thread.now) (T.state thread.now) }
-    ensures { IfOk result (λ child. StartsChild T.setting T.state (T.setting thread.now) (T.state thread.now) number ask.now child) }
+    ensures { IfOk result (λ child. StartsChild T.setting T.state (T.setting thread.now) (T.state thread.now) number ask.now (unboxed child)) }
 {
     match ask {
-        Ask::Spawn { function } => Ok(Some(Fiber {
-            parent: Some(number),
-            function: *function,
-            thread: thread.child()?,
-            entries: Vec::new(alloc),
-            end: None,
-        })),
+        Ask::Spawn { function } => Ok(Some(start_child(alloc, thread, number, *function)?)),
         _ => Ok(None),
     }
 }

@@ -1,5 +1,5 @@
 //! All threads of a run, and one pick of one of them.
-ghost use Rattle.std.specs.Prelude.{◌≡◌, ◌≢◌, ◌<◌, ◌≤◌, None, Some, IsTrue, slice_get, length, vec_len, vec_capacity};
+ghost use Rattle.std.specs.Prelude.{◌≡◌, ◌≢◌, ◌<◌, ◌≤◌, [], ◌∷◌, ◌++◌, None, Some, IsTrue, slice_get, length, vec_len, vec_capacity};
 ghost use Rattle.std.specs.Option.{option_map};
 ghost use Rattle.runs.specs.Threads.{AsksStep};
 ghost use Rattle.thread_machine.specs.Views.{IsSpawn};
@@ -9,7 +9,7 @@ ghost use Rattle.core_model.specs.Ends.{end_in, is_open, IsEndOf, EndsAt, RestsB
 ghost use Rattle.core_model.specs.Turns.{Rests};
 
 use crate::fiber::{Fiber, Took};
-use bsan_ids::{Limits, NoMemory, ThreadNo};
+use bsan_ids::{Limits, ThreadNo};
 use history::{Ask, End};
 use hosts::Hosts;
 use instr_sound::{Thread, end_by, settle};
@@ -60,10 +60,9 @@ fn end_here<T: Thread>(thread: &T, limits: &Limits) -> Option<End>
     if thread.begins() && thread.instructions() == limits.turns {
         return Some(End::TurnLimit);
     }
-    match thread.ask() {
-        Ok(Ask::Ended(end)) => Some(end_by(end)),
-        Ok(_) => None,
-        Err(NoMemory) => Some(End::NoMemory),
+    match thread.ended() {
+        Some(end) => Some(end_by(end)),
+        None => None,
     }
 }
 
@@ -77,6 +76,14 @@ fn rest<T: Thread>(fiber: &mut Fiber<T>, limits: &Limits) -> Pick
         Some(_) => Pick::Ended,
         None => Pick::Stepped,
     }
+}
+
+/// Adds a child, for which there is room.
+fn add_child<T>(fibers: &mut Vec<Fiber<T>>, child: Box<Fiber<T>>)
+    requires { vec_len fibers.old < vec_capacity fibers.old }
+    ensures { fibers.new.items ≡ fibers.old.items ++ child.value ∷ [] }
+{
+    fibers.push_reserved(Box::into_inner(child));
 }
 
 /// The step that a settled thread asks for. `joined` is the end of the child where it asks to join one.
@@ -100,7 +107,7 @@ fn take_step<T: Thread>(
         Took::Stepped(None) => rest(fiber, limits),
         Took::Stepped(Some(child)) => {
             let came = rest(fiber, limits);
-            run.fibers.push_reserved(child);
+            add_child(&mut run.fibers, child);
             came
         }
     }

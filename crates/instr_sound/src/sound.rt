@@ -6,11 +6,11 @@ ghost use Rattle.instrument.specs.Translation.{translation};
 ghost use Rattle.source_sem.specs.Source.{source_ask, source_begins, source_fits, source_site};
 ghost use Rattle.thread_parts.specs.Asks.{AsksAllocation};
 ghost use Rattle.thread_machine.specs.Thread.{thread_ask};
-ghost use Rattle.thread_machine.specs.Views.{IsSpawn};
+ghost use Rattle.thread_machine.specs.Views.{IsSpawn, ended_by};
 
 use crate::text::{TextCall, TextStep, TextThread};
 use bsan_ids::NoMemory;
-use history::{Arg, Ask, Entry};
+use history::{Arg, Ask, Entry, MachineEnd};
 use ir_rules::Verified;
 use std::alloc::Global;
 use std::marker::Model;
@@ -104,6 +104,13 @@ impl<'p> SoundMachine<'p> {
         ensures refused { OnErr result (AsksAllocation (source_ask (text_of self.now) self.now.state)) }
     {
         self.machine.ask()
+    }
+
+    /// How the thread has ended, if it does nothing more. It takes no memory.
+    pub fn ended(&self) -> Option<MachineEnd>
+        ensures { result ≡ ended_by (source_ask (text_of self.now) self.now.state) }
+    {
+        self.machine.ended()
     }
 
     /// Whether an instruction would begin.

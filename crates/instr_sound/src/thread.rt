@@ -5,11 +5,11 @@ ghost use Rattle.history.specs.Replies.{Answers};
 ghost use Rattle.instr_sound.specs.Sound.{AskFits, text_of};
 ghost use Rattle.source_sem.specs.Source.{Setting, Source, source_ask, source_begins, source_site, source_turn, source_answer, source_child, source_fits};
 ghost use Rattle.thread_parts.specs.Asks.{AsksAllocation};
-ghost use Rattle.thread_machine.specs.Views.{IsSpawn};
+ghost use Rattle.thread_machine.specs.Views.{IsSpawn, ended_by};
 
 use crate::sound::SoundMachine;
 use bsan_ids::NoMemory;
-use history::{Ask, Entry};
+use history::{Ask, Entry, MachineEnd};
 
 /// One thread of a program. It asks, and goes on, as the thread over the text does.
 ///
@@ -43,6 +43,10 @@ pub trait Thread: Drop {
         ensures asks { IfOk result (λ a. a ≡ source_ask (setting self.now) (state self.now)) }
         ensures fits { IfOk result AskFits }
         ensures refused { OnErr result (AsksAllocation (source_ask (setting self.now) (state self.now))) };
+
+    /// How it has ended, if it does nothing more. It takes no memory.
+    fn ended(&self) -> Option<MachineEnd>
+        ensures { result ≡ ended_by (source_ask (setting self.now) (state self.now)) };
 
     /// Takes the memory that the next `turn` or `answer` needs.
     ///
@@ -101,6 +105,10 @@ impl Thread for SoundMachine<'_> {
 
     fn ask(&self) -> Result<Ask, NoMemory> {
         SoundMachine::ask(self)
+    }
+
+    fn ended(&self) -> Option<MachineEnd> {
+        SoundMachine::ended(self)
     }
 
     fn prepare(&mut self) -> Result<(), NoMemory> {

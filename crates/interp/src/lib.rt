@@ -1,6 +1,7 @@
 //! A thread of a run and its children, each on a native thread of its own.
 #![tactic(auto)]
 
+mod boxed;
 mod calls;
 mod child;
 mod program;

@@ -7,6 +7,7 @@ ghost use Rattle.source_sem.specs.Records.{IsRightRecord};
 ghost use Rattle.instr_sound.specs.Mains.{IsMain};
 ghost use Rattle.interp.specs.Wholes.{number_of_log};
 
+use crate::boxed::Boxed;
 use crate::run::run_thread;
 use alloc_space::Space;
 use bsan_ids::{Limits, ListOf, NoMemory, ThreadNo};
@@ -85,6 +86,7 @@ pub fn run_program<T: Thread + Send, R: Threads + Wait + Sync, G: Gate + Sync>(
     ensures empty { OnErr result (kept.new ≡ empty_record) }
 {
     kept.clear();
-    *kept = whole_run(rt, alloc, function, machine, limits, gate, hosts)?;
+    let boxed = Boxed::new(alloc, machine)?;
+    *kept = whole_run(rt, alloc, function, boxed, limits, gate, hosts)?;
     Ok(())
 }

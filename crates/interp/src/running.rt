@@ -367,7 +367,9 @@ impl<T: Thread> Running<T> {
         }
     }
 
-    // Goes on until a child is to be started, or to the end.
+    // Goes on until a child is to be started, or to the end. A function of its own, so that what a step takes of the native stack is
+    // given back before a child runs there.
+    #[inline(never)]
     pub(crate) fn run_on<R: Threads + Wait, G: Gate, H: HostCalls>(
         &mut self,
         rt: &R,
@@ -392,6 +394,7 @@ impl<T: Thread> Running<T> {
     }
 
     // Joins the desks of all children that are still out.
+    #[inline(never)]
     pub(crate) fn join_all<R: Threads + Wait>(&mut self, rt: &R, space: &Space, why: End)
         requires ended { HasEnded T.setting T.state space.now why self.old }
         ensures ended { HasEnded T.setting T.state space.now why self.new }
@@ -474,6 +477,7 @@ impl<T: Thread> Running<T> {
     }
 
     /// Its tree and its desk, once all children are joined.
+    #[inline(never)]
     pub(crate) fn into_answer(
         self,
         space: &Space,

@@ -270,6 +270,9 @@ impl LazyTree {
         ensures starts { (node_at self.new.nodes node).runs.starts ≡ (node_at self.old.nodes node).runs.starts }
         ensures spare { (node_at self.old.nodes node).runs.spare ≤ (node_at self.new.nodes node).runs.spare }
     {
+        if self.nodes[node].runs.has_room(runs) {
+            return Ok(());
+        }
         self.settled.clear();
         let changed = &mut self.nodes[node];
         changed.runs.reserve(runs)

@@ -147,6 +147,13 @@ impl<T: Copy + Eq> RangeMap<T> {
         let _ = &self.len;
     }
 
+    /// Whether `runs` more run starts fit without memory.
+    pub fn has_room(&self, runs: u32) -> bool
+        ensures { IsTrue result ↔ (runs ≤ self.now.spare) }
+    {
+        runs as usize <= self.later.capacity() - self.later.len()
+    }
+
     /// Makes room for `runs` more run starts, where there isn't as much yet.
     ///
     /// # Errors

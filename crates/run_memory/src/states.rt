@@ -42,6 +42,8 @@ pub(crate) fn draw_stamp(words: &mut Counters, steps: u64) -> Result<Stamp, Stam
 }
 
 /// A step on an allocation: its memory is taken, then its stamp is drawn, then it is made.
+// inlined, since a call moves the request and the entry once more
+#[inline(always)]
 pub(crate) fn step_on(
     state: &mut AllocState,
     words: &mut Counters,
@@ -98,6 +100,8 @@ pub(crate) fn step_aside(
 }
 
 /// A step on a number within the limit.
+// inlined, since a call moves the request and the entry once more
+#[inline(always)]
 pub(crate) fn step_at(
     states: &mut Vec<AllocState>,
     words: &mut Counters,

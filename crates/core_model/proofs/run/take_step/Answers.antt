@@ -61,11 +61,11 @@ returns-in-Stepped-Some g c = λ x before p f now s.
     let L = c.args.limits.now in
     let H = c.args.hosts.now.table in
     let t = c.args.number.0 in
-    let after = all_seen g.T.Thread.setting g.T.Thread.state c.push_reserved.new.self.items in
+    let after = all_seen g.T.Thread.setting g.T.Thread.state c.add_child.new.fibers.items in
     subst (λ (came : Pick). (q : Played x) × PickedAs x L H came p t q × UnderWay x L H after c.step.new.memory q) (sym r.3)
     (took_step g.T.Thread.setting g.T.Thread.state x L H before c.args.run.now.memory p t f now c.args.ask c.args.run.now.fibers.items s
     c.args.number refl c.args.joined c.requires.joined c.step.new.memory c.index_mut-fiber.result.now c.index_mut-fiber.ensures.value _ (Some c.in-Stepped-Some.child) (rw c.in-Stepped-Some.field-0-is at c.in-Stepped-Some.ensures) r.0 r.1 after
-    (ap (all_seen g.T.Thread.setting g.T.Thread.state) c.push_reserved.ensures.items
-    ∙ seen_push g.T.Thread.setting g.T.Thread.state _ c.in-Stepped-Some.child
-    ∙ ap (λ l. l ++ seen g.T.Thread.setting g.T.Thread.state c.in-Stepped-Some.child ∷ []) (seen_set g.T.Thread.setting g.T.Thread.state c.args.run.now.fibers.items t c.rest-came.new.fiber
+    (ap (all_seen g.T.Thread.setting g.T.Thread.state) c.add_child.ensures
+    ∙ seen_push g.T.Thread.setting g.T.Thread.state _ c.in-Stepped-Some.child.value
+    ∙ ap (λ l. l ++ seen g.T.Thread.setting g.T.Thread.state c.in-Stepped-Some.child.value ∷ []) (seen_set g.T.Thread.setting g.T.Thread.state c.args.run.now.fibers.items t c.rest-came.new.fiber
     ∙ ap (λ (z : Seen). slice_set (all_seen g.T.Thread.setting g.T.Thread.state c.args.run.now.fibers.items) t z) r.2)))
