@@ -1,5 +1,5 @@
 //! Requests to a lazy tree and to the eager tree for which it stands.
-ghost use Rattle.std.specs.Prelude.{◌≡◌, ◌+◌, ◌≤◌, ◌×◌, IsTrue, OnOk};
+ghost use Rattle.std.specs.Prelude.{◌≡◌, ◌+◌, ◌≤◌, IsTrue, OnOk};
 ghost use Rattle.lazy_tree.specs.Eager.{eager_of};
 
 use bsan_ids::{NoMemory, Span, Tag};
