@@ -16,8 +16,8 @@ mod limits;
 #[cfg(test)]
 mod races;
 #[cfg(test)]
-mod runs;
-#[cfg(test)]
 mod texts;
+#[cfg(test)]
+mod whole_runs;
 #[cfg(test)]
 mod words;
