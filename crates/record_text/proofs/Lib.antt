@@ -1,0 +1,17 @@
+pub mod Joined
+pub mod Codecs
+pub mod Decimals
+pub mod Cuts
+pub mod Singles
+pub mod PieceWords
+pub mod WordFields
+pub mod RequestFields
+pub mod LineFields
+pub mod States
+pub mod Beginnings
+pub mod AllocLogs
+pub mod PieceLoop
+pub mod Joining
+pub mod FirstPart
+pub mod Prefixes
+pub mod KeptTexts

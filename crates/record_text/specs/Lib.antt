@@ -1,0 +1,11 @@
+pub mod Words
+pub mod Lines
+pub mod Ranges
+pub mod Texts
+pub mod Reading
+pub mod Tables
+pub mod Parts
+pub mod Whole
+pub mod Halves
+pub mod Loop
+pub mod Written
