@@ -1,0 +1,28 @@
+use Rattle.std.proofs.Common.{◌≡◌, ℕ, List, ◌++◌, ◌∙◌, ap}
+use Rattle.excerpt.specs.Shown.{excerpt}
+use Rattle.notes.specs.Help.{rule_help}
+use Rattle.notes.specs.Meaning.{source_meant}
+use Rattle.notes.specs.Refusals.{rule_line}
+use Rattle.notes.specs.Sources.{heading, help_line}
+use Rattle.notes.proofs.Rows.{grown, grown_by}
+use Rattle.notes.proofs.refusals.rule_note.Goals as goal
+
+pub returns : goal.returns
+returns c =
+    let s = source_meant c.args.source.now in
+    let t0 : List ℕ = c.new-note.result.items in
+    let t1 : List ℕ = c.push_heading.new.notes.items in
+    let t2 : List ℕ = c.extend_from_slice.new.self.items in
+    let t : List ℕ = c.push_help.new.notes.items in
+    let line : List ℕ = heading s (rule_line c.args.rule c.args.at) in
+    let shown : List ℕ = excerpt s.name s.text c.args.at in
+    let help : List ℕ = help_line s (rule_help c.args.rule) in
+    let p1 : t1 ≡ t0 ++ line =
+    grown_by t0 t1 (heading s c.as_bytes.result.now) line c.in_ok-push_heading.ensures
+    (ap (heading s) (c.as_bytes.ensures.value ∙ c.in_ok-rule_line.ensures)) in
+    let p2 : t2 ≡ t1 ++ shown =
+    grown_by t1 t2 c.deref.result.now shown c.in_ok-extend_from_slice.ensures.items (c.deref.ensures.value ∙ c.in_ok-excerpt.ensures) in
+    let p3 : t ≡ t2 ++ help =
+    grown_by t2 t (help_line s c.rule_help.result.now) help c.in_ok-push_help.ensures (ap (help_line s) c.rule_help.ensures) in
+    grown t0 t1 t line (shown ++ help) p1 (grown t1 t2 t shown help p2 p3)
+    ∙ ap (λ (before : List ℕ). before ++ (line ++ (shown ++ help))) c.new-note.ensures.items

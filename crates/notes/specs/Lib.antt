@@ -1,0 +1,10 @@
+pub mod Colours
+pub mod Sources
+pub mod Meaning
+pub mod Help
+pub mod Made
+pub mod Causes
+pub mod Violations
+pub mod Races
+pub mod Refusals
+pub mod Whole
