@@ -1,5 +1,5 @@
 -- Of the record that a call leaves notes can be made: its logs are legal histories, and no stamp stands twice.
-use Rattle.std.proofs.Common.{◌≡◌, ℕ, Option, sym, subst, inl, inr, arith}
+use Rattle.std.proofs.Common.{ℕ, Option, sym, subst, inl, inr}
 use Rattle.std.proofs.lemmas.List.Elements.{All-nil}
 use Rattle.std.specs.List.{IsDistinct}
 use Rattle.command_words.specs.Jobs.{Job, ScheduledRun, Settings, default_settings}
