@@ -69,13 +69,23 @@ fn child_of<T: Thread>(
     }
 }
 
+/// For how many more entries memory is taken at once, where a log has no room. A log that grows is copied, so it grows
+/// fast while it is small.
+fn more_entries(len: usize) -> usize
+    ensures { 0 < result }
+{
+    if len < 4096 { 3 * len + 16 } else { len }
+}
+
 impl<T: Thread> Fiber<T> {
     /// Takes the memory for one more entry and for the next part of the thread.
     fn make_room(&mut self) -> Result<(), NoMemory>
         ensures seen { seen T.setting T.state self.new ≡ seen T.setting T.state self.old }
         ensures ready { OnOk result (IsReady T.prepared self.new) }
     {
-        self.entries.reserve(1)?;
+        if self.entries.len() == self.entries.capacity() {
+            self.entries.reserve(more_entries(self.entries.len()))?;
+        }
         self.thread.prepare()?;
         Ok(())
     }

@@ -1,9 +1,10 @@
 //! Short texts, and how they are refused.
 use ir_reader::{ReadFault, read};
-use std::test::Fail;
+use std::alloc::Global;
+use std::process::Abort;
 
-/// Texts that are cut off, or go wrong, with the place where.
-const REFUSED: [(&str, ReadFault); 37] = [
+/// Texts that are cut off, have a wrong first line, or a byte or a kind that they can't have, with the place where.
+const TEXTS: [(&str, ReadFault); 17] = [
     // cut off
     ("", ReadFault::Unexpected { at: 0 }),
     (" ; nothing", ReadFault::Unexpected { at: 10 }),
@@ -40,6 +41,10 @@ const REFUSED: [(&str, ReadFault); 37] = [
         "bir 2 func @f(ptr shrcell(8) %a) -> ptr shrcells(8) { b: ret void }",
         ReadFault::Unexpected { at: 40 },
     ),
+];
+
+/// Functions that go wrong in their blocks, operations and numbers, with the place where.
+const FUNCTIONS: [(&str, ReadFault); 20] = [
     // functions and blocks
     (
         "bir 1 func @f() -> void { }",
@@ -126,14 +131,22 @@ const REFUSED: [(&str, ReadFault); 37] = [
     ),
 ];
 
-#[test]
-fn refuses_where_it_goes_wrong(rt: HostRuntime) -> Result<(), Fail> {
-    for (text, fault) in REFUSED {
+fn check(rt: &impl Abort, alloc: Global, rows: &[(&str, ReadFault)]) {
+    for (text, fault) in rows {
         assert_eq!(rt;
-            read(rt.alloc(), text.as_bytes()).err(),
-            Some(fault),
+            read(alloc, text.as_bytes()).err(),
+            Some(*fault),
             "in {text}"
         );
     }
-    Ok(())
+}
+
+#[test]
+fn refuses_texts(rt: HostRuntime) {
+    check(&rt, rt.alloc(), &TEXTS);
+}
+
+#[test]
+fn refuses_functions(rt: HostRuntime) {
+    check(&rt, rt.alloc(), &FUNCTIONS);
 }

@@ -7,10 +7,14 @@ use ir_reader::read;
 use ir_rules::Rule;
 use ir_verify::{VerifyFault, verify};
 use std::alloc::Global;
+use std::process::Abort;
 use std::test::Fail;
 
-/// Programs in which a rule is broken: the text, the rule, its place.
-const BROKEN: [(&str, Rule, u32); 40] = [
+/// A program in which a rule is broken: the text, the rule, its place.
+type Row = (&'static str, Rule, u32);
+
+/// Names that stand for nothing or for too much, values of other types, and registers that no step has defined.
+const NAMES: [Row; 17] = [
     // unknown register
     (
         "bir 1 func @main() -> i64 { e: print i64 %x ret i64 0 }",
@@ -113,6 +117,10 @@ const BROKEN: [(&str, Rule, u32); 40] = [
         Rule::Unassigned,
         44,
     ),
+];
+
+/// Jumps, calls, spawns, hosts and joins that do not fit.
+const JUMPS: [Row; 14] = [
     // no such label
     (
         "bir 1 func @main() -> i64 { e: br nowhere }",
@@ -193,6 +201,10 @@ const BROKEN: [(&str, Rule, u32); 40] = [
         Rule::HandleUse,
         62,
     ),
+];
+
+/// The function `main`, and programs in which two rules are broken, of which the first is told.
+const ORDER: [Row; 9] = [
     // no main
     ("bir 1 func @f() -> i64 { e: ret i64 0 }", Rule::NoMain, 39),
     // main with a parameter
@@ -281,11 +293,33 @@ fn first_broken(alloc: Global, text: &str) -> Result<Option<(Rule, u32)>, NoMemo
     }
 }
 
+fn check(rt: &impl Abort, alloc: Global, rows: &[Row]) -> Result<(), NoMemory> {
+    for (text, rule, at) in rows {
+        assert_eq!(rt; first_broken(alloc, text)?, Some((*rule, *at)), "{text}");
+    }
+    Ok(())
+}
+
+#[test]
+fn tells_what_is_broken_of_names(rt: HostRuntime) -> Result<(), Fail> {
+    check(&rt, rt.alloc(), &NAMES)?;
+    Ok(())
+}
+
+#[test]
+fn tells_what_is_broken_of_jumps(rt: HostRuntime) -> Result<(), Fail> {
+    check(&rt, rt.alloc(), &JUMPS)?;
+    Ok(())
+}
+
 #[test]
 fn tells_the_first_broken_rule(rt: HostRuntime) -> Result<(), Fail> {
-    for (text, rule, at) in BROKEN {
-        assert_eq!(rt; first_broken(rt.alloc(), text)?, Some((rule, at)), "{text}");
-    }
+    check(&rt, rt.alloc(), &ORDER)?;
+    Ok(())
+}
+
+#[test]
+fn accepts_programs(rt: HostRuntime) -> Result<(), Fail> {
     for text in ACCEPTED {
         assert_eq!(rt; first_broken(rt.alloc(), text)?, None, "{text}");
     }

@@ -1,5 +1,5 @@
 //! Requests to a lazy tree and to the eager tree for which it stands.
-ghost use Rattle.std.specs.Prelude.{◌≡◌, ◌+◌, ◌≤◌, ◌×◌, IsTrue, OnOk};
+ghost use Rattle.std.specs.Prelude.{◌≡◌, ◌+◌, ◌≤◌, IsTrue, OnOk};
 ghost use Rattle.lazy_tree.specs.Eager.{eager_of};
 
 use bsan_ids::{NoMemory, Span, Tag};
@@ -138,6 +138,46 @@ fn a_thousand_requests_agree(rt: HostRuntime) -> Result<(), Fail> {
             };
             let new = Tag(nodes.wrapping_add(1));
             assert!(rt; agree(&mut eager, &mut lazy, request, new)?);
+        }
+    }
+    Ok(())
+}
+
+/// The write in a round that changes nothing once all have been made: each of four nodes has four spans
+/// of its own.
+fn own_write(round: u64) -> TreeRequest {
+    let at = round.wrapping_mul(5) % 16;
+    TreeRequest::Access {
+        tag: Tag(2 + at / 4),
+        span: Span {
+            start: (at * 4) as u32,
+            len: 4,
+        },
+        kind: Kind::Write,
+    }
+}
+
+/// The first three rounds of the writes make the states and the room; from then on each write is kept in
+/// mind, whatever comes between two of one: it counts one run in `prepare` and one in the access.
+#[test]
+fn sixteen_writes_are_kept_in_mind(rt: HostRuntime) -> Result<(), Fail> {
+    let mut eager = EagerTree::new(rt.alloc(), Tag(1), 64)?;
+    let mut lazy = LazyTree::new(rt.alloc(), Tag(1), 64);
+    'rounds: for round in 0..68_u64 {
+        let request = if round < 4 {
+            TreeRequest::Retag {
+                parent: Tag(1),
+                span: Span { start: 0, len: 64 },
+                kind: RetagKind::Mut,
+                guard: Guard::Free,
+            }
+        } else {
+            own_write(round)
+        };
+        let before = lazy.visits();
+        assert!(rt; agree(&mut eager, &mut lazy, request, Tag(2 + round))?);
+        if round >= 52 {
+            assert_eq!(rt; lazy.visits().wrapping_sub(before), 2);
         }
     }
     Ok(())

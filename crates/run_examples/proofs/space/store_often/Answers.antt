@@ -1,5 +1,5 @@
 use Rattle.alloc_space.proofs.Trying.{same_after, room_after}
-use Rattle.alloc_space.proofs.tests.store_often.Goals as goal
+use Rattle.run_examples.proofs.space.store_often.Goals as goal
 
 pub loop-site-preserved : goal.loop-site-preserved
 loop-site-preserved g c = (
