@@ -1,0 +1,3 @@
+pub mod TopCall
+pub mod Kept
+pub mod Shown
