@@ -1,3 +1,7 @@
+ghost use Rattle.std.specs.Prelude.{◌<◌, length};
+ghost use Rattle.hosts.specs.Rules.{IsAnswer};
+ghost use Rattle.hosts.specs.Standard.{standard_table};
+
 use hosts::{Hosts, standard_answer, standard_table};
 use std::test::Fail;
 
@@ -9,10 +13,11 @@ fn standard_functions_answer(rt: HostRuntime) -> Result<(), Fail> {
     let Ok(table) = standard_table(rt.alloc()) else {
         return Err(Fail::new("standard_table"));
     };
-    let Ok(answerer) = Box::new(rt.alloc(), standard_answer) else {
-        return Err(Fail::new("Box::new"));
-    };
-    let hosts = Hosts::new(table, answerer);
+    let standard = |number: u32, first: u64, second: u64|
+        requires { number < length standard_table.entries }
+        ensures { IsAnswer standard_table number first second result }
+    { standard_answer(number, first, second) };
+    let hosts = Hosts::new(table, Box::new(rt.alloc(), standard)?);
     ask_shared(&hosts);
     assert_eq!(rt; hosts.table().entries.len(), 4);
     let cases = [
