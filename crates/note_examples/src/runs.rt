@@ -1,4 +1,6 @@
 //! Notes on races and traps.
+ghost use Rattle.std.specs.Prelude.{◌≡◌, [], IfOk};
+
 use crate::sources::{long_line, no_hosts, source};
 use bsan_ids::{AllocNo, Counters, ListOf, Stamp, ThreadNo};
 use history::{End, Entry, Plain, Reply, Request, RunRecord, ThreadLog, Trap, Verdict};
@@ -28,7 +30,9 @@ fn step(thread: u32, stamp: u64, site: u32) -> Entry {
 }
 
 /// The record of a run whose thread 2 trapped at this instruction.
-fn trapped(alloc: Global, site: u32) -> Result<RunRecord, Fail> {
+fn trapped(alloc: Global, site: u32) -> Result<RunRecord, Fail>
+    ensures { IfOk result (λ kept. kept.allocs ≡ []) }
+{
     let thread = ThreadLog {
         number: ThreadNo(2),
         parent: Some(ThreadNo(0)),

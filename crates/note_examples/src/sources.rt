@@ -1,10 +1,14 @@
+ghost use Rattle.std.specs.Prelude.{◌≡◌, []};
+
 use bsan_ids::ListOf;
 use ir_ast::HostTable;
 use notes::Source;
 use std::alloc::Global;
 use std::test::Fail;
 
-pub fn no_hosts(alloc: Global) -> HostTable {
+pub fn no_hosts(alloc: Global) -> HostTable
+    ensures { result ≡ record { entries = [] } }
+{
     HostTable {
         entries: ListOf::new(alloc),
     }
