@@ -20,5 +20,6 @@ mod tables;
 mod write;
 
 pub use laws::reading_is_one;
+pub use logs::logs_from;
 pub use record::{RecordFault, read_record};
 pub use write::write_record;

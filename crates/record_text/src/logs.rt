@@ -105,7 +105,7 @@ fn append_logs(
     logs: &mut ListOf<AllocLog>,
     entries: Vec<Entry>,
     first: u32,
-    count: u32,
+    count: u64,
 ) -> Result<(), NoMemory>
     requires { first + count ≤ 2 ^ 32 }
     ensures { OnOk result (logs.new ≡ logs.old ++ logs_from entries.items first count) }
@@ -122,9 +122,30 @@ fn append_logs(
         return append_log(logs, number, own);
     }
     let half = count / 2;
-    let (lower, upper) = halves(alloc, entries, first + half)?;
+    let middle = first + half as u32;
+    let (lower, upper) = halves(alloc, entries, middle)?;
     append_logs(alloc, logs, lower, first, half)?;
-    append_logs(alloc, logs, upper, first + half, count - half)
+    append_logs(alloc, logs, upper, middle, count - half)
+}
+
+/// The logs of `count` allocations from the number `first` on, of those on which there is an entry: each has its entries in
+/// their order.
+///
+/// # Errors
+///
+/// `NoMemory`: out of memory.
+pub fn logs_from(
+    alloc: Global,
+    entries: Vec<Entry>,
+    first: u32,
+    count: u64,
+) -> Result<ListOf<AllocLog>, NoMemory>
+    requires { first + count ≤ 2 ^ 32 }
+    ensures { IfOk result (λ logs. logs ≡ logs_from entries.items first count) }
+{
+    let mut logs = ListOf::new(alloc);
+    append_logs(alloc, &mut logs, entries, first, count)?;
+    Ok(logs)
 }
 
 /// The restrictions of all entries to the allocations from 1 to the limit, of those that have an
@@ -141,7 +162,5 @@ pub fn alloc_logs(
     ensures { IfOk result (λ logs. logs ≡ alloc_logs limit threads.now) }
 {
     let entries = all_by_stamp(alloc, threads)?;
-    let mut logs = ListOf::new(alloc);
-    append_logs(alloc, &mut logs, entries, 1, limit)?;
-    Ok(logs)
+    logs_from(alloc, entries, 1, u64::from(limit))
 }

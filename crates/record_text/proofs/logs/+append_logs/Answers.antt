@@ -1,4 +1,4 @@
-use Rattle.std.proofs.Common.{◌∙◌, ◌++◌, ◌/◌, List, sym, ap, append-nil, arith}
+use Rattle.std.proofs.Common.{◌∙◌, ◌+◌, ◌++◌, ◌-◌, ◌/◌, List, sym, ap, append-nil, arith}
 use Rattle.std.proofs.lemmas.Result.{on_ok_weaker}
 use Rattle.history.specs.declared.log.AllocLog.{AllocLog}
 use Rattle.record_text.proofs.AllocLogs.{logs_none, logs_halved}

@@ -1,0 +1,10 @@
+use Rattle.std.proofs.Common.{◌≡◌, ◌++◌, drop}
+use Rattle.std.specs.List.{flat_map}
+use Rattle.history.specs.declared.entry.Entry.{Entry}
+use Rattle.runs.specs.Right.{made_by}
+use Rattle.record_file.proofs.counters.push_allocs.Given as goal
+
+abbrev pub invariant-loop-entry : goal.invariant-loop-entry
+invariant-loop-entry l =
+    let named = λ (e : Entry). made_by e.reply.plain in
+    l.numbers.items ++ flat_map named (drop l.entry-index l.entry-items) ≡ l.initial.numbers.items ++ flat_map named l.log.entries

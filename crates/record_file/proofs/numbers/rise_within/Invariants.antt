@@ -1,0 +1,7 @@
+use Rattle.std.proofs.Common.{ℕ, ◌<◌, ◌≤◌, ◌+◌}
+use Rattle.std.specs.Prelude.{slice_index}
+use Rattle.record_file.proofs.numbers.rise_within.Given as goal
+
+abbrev pub invariant-loop-at : goal.invariant-loop-at
+invariant-loop-at l =
+    ((k : ℕ) → k < l.at → slice_index l.numbers k ≤ l.most) × ((k : ℕ) → k + 1 < l.at → slice_index l.numbers k < slice_index l.numbers (k + 1))

@@ -1,0 +1,14 @@
+pub mod ByNumber
+pub mod Checked
+pub mod Counts
+pub mod Family
+pub mod Feeding
+pub mod Following
+pub mod Joins
+pub mod Logs
+pub mod Merging
+pub mod Naming
+pub mod Reaching
+pub mod Replaying
+pub mod Rest
+pub mod Starting
