@@ -3,8 +3,8 @@ use Rattle.std.proofs.Common.{◌≡◌, ◌≤◌, ◌⊎◌, ℕ, List, length
 use Rattle.std.specs.Io.KnownBytes.{Appends}
 use Rattle.std.specs.Option.{IsSomeAnd, option_and_then}
 use Rattle.outside_io.specs.Reading.{Tells, IsLongerThan}
-use Rattle.command_words.specs.Jobs.{Job, Settings, ScheduledRun, default_settings, settings_in}
-use Rattle.command_words.specs.Jobs.Job.{Check, Instrument, Replay, Run, Load, Races, Hush, Explain}
+use Rattle.command_words.specs.Jobs.{Job, RecordCheck, Settings, ScheduledRun, default_settings, settings_in}
+use Rattle.command_words.specs.Jobs.Job.{Check, Instrument, Replay, Run, Load, Races, Record, Recheck, Hush, Explain}
 use Rattle.core_model.specs.Kept.{Replayed}
 use Rattle.ir_ast.specs.declared.hosts.HostTable.{HostTable}
 use Rattle.ir_ast.specs.declared.program.Program.{Program}
@@ -21,20 +21,22 @@ use Rattle.suppress.specs.declared.line.Reading.TheVariants as reading
 use Rattle.suppress.specs.declared.rules.Rules.{Rules}
 use Rattle.suppress.proofs.Refusing.{no_rules}
 use Rattle.source_sem.specs.Records.{IsRightRecord}
-use Rattle.bsan.specs.Words.{Text, Origin, origin_of, rules_in, IsFrom}
+use Rattle.bsan.specs.Words.{Text, Origin, origin_of, rules_in, recheck_in, IsFrom}
 use Rattle.bsan.specs.Words.Origin.{InFile, Generated}
 use Rattle.bsan.specs.Seen.{FilesSeen, SinkSeen, Failed, WasTooLong, WasRead, IsFault, Puts}
 use Rattle.bsan.specs.Seen.Puts.{whole, failed, no_memory}
 use Rattle.bsan.specs.Runs.{IsInput, IsScheduledRun, IsNativeRun}
 use Rattle.bsan.specs.Rules.{AreRulesIn, IsRefusedAt, OfRead}
+use Rattle.bsan.specs.Rechecks.{most_record_bytes, IsFoundOf, HasReadInput, IsRecordFault}
 use Rattle.bsan.specs.Answer.{OfFile, OfText, OfProgram, OfJob, HasProgram, Serves, FindsIn, HasCause, Answers, text_for, status_for}
-use Rattle.bsan.specs.Causes.{IsCutShort, IsUnread, ComesBetween, IsRefused, IsBroken, TellsText, IsGiven, IsGivenInput, HasInput, AreRulesGiven, HasRules, IsServed, IsComplete}
+use Rattle.bsan.specs.Causes.{IsCutShort, IsUnread, ComesBetween, IsRefused, IsBroken, TellsText, IsGivenWithin, IsGiven, IsGivenInput, HasInput, AreRulesGiven, HasRules, HasRecord, IsRechecked, IsServed, IsComplete}
 use Rattle.bsan.proofs.Found.{of_origin}
+use Rattle.bsan.proofs.FoundTexts.{right_at_0, right_is_0}
 use Rattle.bsan.specs.declared.outcome.LineFault.{LineFault}
 use Rattle.bsan.specs.declared.outcome.LineFault.TheVariants.{BadLine, NoFunction}
 use Rattle.bsan.specs.declared.outcome.Role.TheVariants as role
 use Rattle.bsan.specs.declared.outcome.Outcome.{Outcome}
-use Rattle.bsan.specs.declared.outcome.Outcome.TheVariants.{Usage, FileFault, TooLong, NotRead, NotVerified, RulesRefused, Accepted, Instrumented, Ran, Loaded, Hushed, Raced, Traced}
+use Rattle.bsan.specs.declared.outcome.Outcome.TheVariants.{Usage, FileFault, TooLong, NotRead, NotVerified, RulesRefused, NotRecord, RecordBroken, Accepted, Instrumented, RecordHolds, Ran, Loaded, Recorded, Hushed, Raced, Traced}
 
 pub same_job : (asked : Option Job) (job other : Job) → asked ≡ Some job → asked ≡ Some other → job ≡ other
 same_job asked job other is also = let same : Some job ≡ Some other = sym is ∙ also in cc
@@ -102,19 +104,20 @@ given_text files (InFile file) program text gives read =
     subst (λ (t : List ℕ). IsProgramOf t program) (sym (told_bytes (files.content file) text gives.0 read.told gives.1.content)) gives.2
 given_text files (Generated run) program text gives read = absurd read
 
-pub not_unread : (files : FilesSeen) (file : Text) (bytes : List ℕ) → IsGiven files file bytes → IsFault files file → ⊥
-not_unread files file bytes given (inl fault) = given.no_fault fault
-not_unread files file bytes given (inr long) = not_longer most_bytes (files.content file) bytes long.longer given.content given.within
+not_unread : (limit : ℕ) (files : FilesSeen) (file : Text) (bytes : List ℕ) → IsGivenWithin limit files file bytes
+    → Failed files file ⊎ WasTooLong files file limit → ⊥
+not_unread limit files file bytes given (inl fault) = given.no_fault fault
+not_unread limit files file bytes given (inr long) = not_longer limit (files.content file) bytes long.longer given.content given.within
 
 not_unread_program : (files : FilesSeen) (origin : Origin) (program : Program) (P : Text → Type 0) → HasProgram (IsGiven files) origin program
     → ((name : Text) → P name → IsFault files name) → IsFrom P origin → ⊥
-not_unread_program files (InFile file) program P gives fault of = not_unread files file gives.0 gives.1 (fault file of)
+not_unread_program files (InFile file) program P gives fault of = not_unread most_bytes files file gives.0 gives.1 (fault file of)
 not_unread_program files (Generated run) program P gives fault of = of
 
 not_unread_input : (files : FilesSeen) (file : Option Text) (bytes : List ℕ) (P : Text → Type 0) → IsGivenInput files file bytes
     → ((name : Text) → P name → IsFault files name) → IsSomeAnd file P → ⊥
 not_unread_input files None bytes P given fault of = of
-not_unread_input files (Some name) bytes P given fault of = not_unread files name bytes given (fault name of)
+not_unread_input files (Some name) bytes P given fault of = not_unread most_bytes files name bytes given (fault name of)
 
 -- the input that was read is the one that is given
 same_input : (files : FilesSeen) (file : Option Text) (read given : List ℕ) → IsInput files file read → IsGivenInput files file given → read ≡ given
@@ -136,7 +139,7 @@ read_is_told files file text P is of = subst P (told_bytes (files.content file) 
 rules_were_read : (files : FilesSeen) (program : Program) (file : Option Text) (P : Text → Type 0) → ((name : Text) → P name → IsFault files name)
     → IfSome file (λ name. AreRulesGiven files program name) → IsSomeAnd file P → ⊥
 rules_were_read files program None P fault given of = of
-rules_were_read files program (Some name) P fault given of = not_unread files name given.0 given.1 (fault name of)
+rules_were_read files program (Some name) P fault given of = not_unread most_bytes files name given.0 given.1 (fault name of)
 
 rules_were_taken : (files : FilesSeen) (program : Program) (file : Option Text) (why : LineFault) (line : ℕ)
     → IfSome file (λ name. AreRulesGiven files program name) → IsSomeAnd file (λ name. OfRead files name (λ text. IsRefusedAt program text why line)) → ⊥
@@ -144,6 +147,13 @@ rules_were_taken files program None why line given of = of
 rules_were_taken files program (Some name) why line given of =
     taken_or_refused program given.0 given.2 why line given.3
     (read_is_told files name given.0 (λ text. IsRefusedAt program text why line) given.1.content of)
+
+-- ---- records
+-- the record that is given was read
+record_was_read : (files : FilesSeen) (check : Option RecordCheck) (P : RecordCheck → Type 0) → ((c : RecordCheck) → P c → IsRecordFault files c)
+    → IfSome check (λ c. (text : List ℕ) × IsGivenWithin most_record_bytes files c.record text) → IsSomeAnd check P → ⊥
+record_was_read files None P fault given of = of
+record_was_read files (Some check) P fault given of = not_unread most_record_bytes files check.record given.0 given.1 (fault check of)
 
 -- one put answers the status, unless it is cut short
 pub put_answer : (sink : SinkSeen) (text : List ℕ) (status answer : ℕ) → Puts sink text status answer → (answer ≡ status) ⊎ IsCutShort answer
@@ -184,19 +194,25 @@ refused files hosts sink asked kept answer (inl told) tells = by_found told.foun
         file_fault files sink asked _ 3 answer (unread_by files asked (λ file. Failed files file) (λ file is. inl is) cause.0) puts
     by_found (FileFault role.Rules) cause puts = absurd (unless (FileFault role.Rules) cause)
     by_found (FileFault role.Input) cause puts = absurd (unless (FileFault role.Input) cause)
+    by_found (FileFault role.Record) cause puts = absurd (unless (FileFault role.Record) cause)
     by_found (TooLong role.Program) cause puts =
         file_fault files sink asked _ 3 answer (unread_by files asked (λ file. WasTooLong files file most_bytes) (λ file is. inr is) cause.0) puts
     by_found (TooLong role.Rules) cause puts = absurd (unless (TooLong role.Rules) cause)
     by_found (TooLong role.Input) cause puts = absurd (unless (TooLong role.Input) cause)
+    by_found (TooLong role.Record) cause puts = absurd (unless (TooLong role.Record) cause)
     by_found (NotRead read_fault) cause puts = one_put files sink asked _ 3 answer puts
     by_found (NotVerified rule at) cause puts =
         absurd (of_none tells.text (λ program. IsFirstBroken program hosts (fault rule at)) tells.holds.0 tells.holds.1
         (of_told files asked (OfProgram (λ program. IsFirstBroken program hosts (fault rule at))) tells.job tells.text tells.is tells.content cause.0))
     by_found (RulesRefused why line) cause puts = absurd (unless (RulesRefused why line) cause)
+    by_found (NotRecord line) cause puts = absurd (unless (NotRecord line) cause)
+    by_found (RecordBroken clause) cause puts = absurd (unless (RecordBroken clause) cause)
     by_found (Accepted functions instructions) cause puts = absurd (unless (Accepted functions instructions) cause)
     by_found (Instrumented target) cause puts = absurd (unless (Instrumented target) cause)
+    by_found (RecordHolds steps threads) cause puts = absurd (unless (RecordHolds steps threads) cause)
     by_found Ran cause puts = absurd (unless Ran cause)
     by_found (Loaded seed size) cause puts = absurd (unless (Loaded seed size) cause)
+    by_found Recorded cause puts = absurd (unless Recorded cause)
     by_found (Hushed rules) cause puts = absurd (unless (Hushed rules) cause)
     by_found (Raced races) cause puts = absurd (unless (Raced races) cause)
     by_found (Traced violations) cause puts = absurd (unless (Traced violations) cause)
@@ -223,19 +239,25 @@ broken files hosts sink asked kept answer (inl told) tells = by_found told.found
         file_fault files sink asked _ 4 answer (unread_by files asked (λ file. Failed files file) (λ file is. inl is) cause.0) puts
     by_found (FileFault role.Rules) cause puts = absurd (unless (FileFault role.Rules) cause cause.holds.0)
     by_found (FileFault role.Input) cause puts = absurd (unless (FileFault role.Input) cause cause.holds.0)
+    by_found (FileFault role.Record) cause puts = absurd (unless (FileFault role.Record) cause cause.holds.0)
     by_found (TooLong role.Program) cause puts =
         file_fault files sink asked _ 4 answer (unread_by files asked (λ file. WasTooLong files file most_bytes) (λ file is. inr is) cause.0) puts
     by_found (TooLong role.Rules) cause puts = absurd (unless (TooLong role.Rules) cause cause.holds.0)
     by_found (TooLong role.Input) cause puts = absurd (unless (TooLong role.Input) cause cause.holds.0)
+    by_found (TooLong role.Record) cause puts = absurd (unless (TooLong role.Record) cause cause.holds.0)
     by_found (NotRead read_fault) cause puts =
         absurd (of_none tells.text (IsBroken hosts) read_fault
         (of_told files asked (λ text. Refuses text read_fault) tells.job tells.text tells.is tells.content cause.0) tells.holds)
     by_found (NotVerified rule at) cause puts = one_put files sink asked _ 4 answer puts
     by_found (RulesRefused why line) cause puts = absurd (unless (RulesRefused why line) cause cause.holds.0)
+    by_found (NotRecord line) cause puts = absurd (unless (NotRecord line) cause cause.holds.0)
+    by_found (RecordBroken clause) cause puts = absurd (unless (RecordBroken clause) cause cause.holds.0)
     by_found (Accepted functions instructions) cause puts = absurd (unless (Accepted functions instructions) cause cause.holds.0)
     by_found (Instrumented target) cause puts = absurd (unless (Instrumented target) cause cause.holds.0)
+    by_found (RecordHolds steps threads) cause puts = absurd (unless (RecordHolds steps threads) cause cause.holds.0)
     by_found Ran cause puts = absurd (unless Ran cause cause.holds.0)
     by_found (Loaded seed size) cause puts = absurd (unless (Loaded seed size) cause cause.holds.0)
+    by_found Recorded cause puts = absurd (unless Recorded cause cause.holds.0)
     by_found (Hushed rules) cause puts = absurd (unless (Hushed rules) cause cause.holds.0)
     by_found (Raced races) cause puts = absurd (unless (Raced races) cause cause.holds.0)
     by_found (Traced violations) cause puts = absurd (unless (Traced violations) cause cause.holds.0)
@@ -289,36 +311,66 @@ complete files hosts sink asked kept answer (inl told) job program input well = 
         → Appends sink.taken_before sink.taken_after (text_for other kept)
     told_text found other same appends = subst (λ (f : Outcome). Appends sink.taken_before sink.taken_after (text_for f kept)) same appends
 
-    by_job : (found : Outcome) (job : Job) → HasInput files input job → HasRules files program job → Serves files hosts kept found program job → answer ≡ status_for found kept
-        → Appends sink.taken_before sink.taken_after (text_for found kept) → IsServed files hosts sink kept program input answer job
-    by_job found (Check file) has given serves is appends =
+    -- what was found of the record's text, which is given, with this input
+    of_given : (found : Outcome) (check : RecordCheck) → IsGivenInput files check.settings.input input → (held : HasRecord files (Recheck check))
+        → Serves files hosts kept found program (Recheck check) → IsFoundOf program input hosts check.settings.limits held.0 found
+    of_given found check has held serves =
+        let same : serves.0.2 ≡ held.0 = told_bytes (files.content check.record) serves.0.2 held.0 serves.0.3.told held.1.content in
+        subst (λ (text : List ℕ). IsFoundOf program input hosts check.settings.limits text found) same
+        (subst (λ (bytes : List ℕ). IsFoundOf program bytes hosts check.settings.limits serves.0.2 found)
+        (same_input files check.settings.input serves.0.0 input serves.0.1 has) serves.0.4)
+
+    rechecked : (found : Outcome) (check : RecordCheck) → IsGivenInput files check.settings.input input → HasRecord files (Recheck check)
+        → Serves files hosts kept found program (Recheck check) → answer ≡ status_for found kept
+        → Appends sink.taken_before sink.taken_after (text_for found kept) → IsRechecked files hosts sink kept program input check answer
+    rechecked found check has held serves is appends =
+        let of = of_given found check has held serves in record {
+          told = held.0;
+          content = held.1.content;
+          found = found;
+          is = of;
+          exactly = (
+            λ zero. right_at_0 program input hosts check.settings.limits held.0 kept found of (sym zero ∙ is),
+            λ right. is ∙ right_is_0 kept program input hosts check.settings.limits held.0 found of right,
+          );
+          status = is;
+          text = appends;
+          none = serves.1;
+        }
+
+    by_job : (found : Outcome) (job : Job) → HasInput files input job → HasRules files program job → HasRecord files job → Serves files hosts kept found program job
+        → answer ≡ status_for found kept → Appends sink.taken_before sink.taken_after (text_for found kept) → IsServed files hosts sink kept program input answer job
+    by_job found (Check file) has given held serves is appends =
         record { status = told_status found _ serves.0 is; text = told_text found _ serves.0 appends }
-    by_job found (Instrument file) has given serves is appends =
+    by_job found (Instrument file) has given held serves is appends =
         record { status = told_status found _ serves.0 is; text = told_text found _ serves.0 appends }
-    by_job found (Replay run) has given serves is appends =
+    by_job found (Replay run) has given held serves is appends =
         record { right = replayed run has serves.1; status = told_status found Ran serves.0 is; text = told_text found Ran serves.0 appends }
-    by_job found (Run run) has given serves is appends =
+    by_job found (Run run) has given held serves is appends =
         record { right = right run.settings has serves.1; status = told_status found Ran serves.0 is; text = told_text found Ran serves.0 appends }
-    by_job found (Load run) has given serves is appends = record {
+    by_job found (Load run) has given held serves is appends = record {
       right = subst (λ (bytes : List ℕ). IsRightRecord program bytes hosts default_settings.limits kept) has (right default_settings has serves.1);
       status = told_status found (Loaded run.seed run.size) serves.0 is;
       text = told_text found (Loaded run.seed run.size) serves.0 appends;
     }
-    by_job found (Races run) has given serves is appends = record {
+    by_job found (Races run) has given held serves is appends = record {
       right = replayed run has serves.0;
       races = serves.1.0;
       first = serves.1.2;
       status = told_status found (Raced serves.1.0) serves.1.1 is;
       text = told_text found (Raced serves.1.0) serves.1.1 appends;
     }
-    by_job found (Hush run) has given serves is appends = record {
+    by_job found (Record run) has given held serves is appends =
+        record { right = right run.settings has serves.1; status = told_status found Recorded serves.0 is; text = told_text found Recorded serves.0 appends }
+    by_job found (Recheck check) has given held serves is appends = rechecked found check has held serves is appends
+    by_job found (Hush run) has given held serves is appends = record {
       right = right run.settings has serves.0;
       rules = serves.1.0;
       are = (given.0, given.1.content, read_is_told files run.rules given.0 (λ text. AreRulesIn program text serves.1.0) given.1.content serves.1.2);
       status = told_status found (Hushed serves.1.0) serves.1.1 is;
       text = told_text found (Hushed serves.1.0) serves.1.1 appends;
     }
-    by_job found (Explain run) has given serves is appends = record {
+    by_job found (Explain run) has given held serves is appends = record {
       right = replayed run has serves.0;
       violations = serves.1.0;
       explained = serves.1.2;
@@ -328,7 +380,7 @@ complete files hosts sink asked kept answer (inl told) job program input well = 
 
     by_puts : (found : Outcome) → Serves files hosts kept found program job → Puts sink (text_for found kept) (status_for found kept) answer
         → IsServed files hosts sink kept program input answer job ⊎ (answer ≡ 9)
-    by_puts found serves (whole is appends) = inl (by_job found job well.has_input well.has_rules serves is appends)
+    by_puts found serves (whole is appends) = inl (by_job found job well.has_input well.has_rules well.has_record serves is appends)
     by_puts found serves (failed is rose prefix) = absurd (well.no_put_fault rose)
     by_puts found serves (no_memory is keeps) = inr is
 
@@ -340,11 +392,17 @@ complete files hosts sink asked kept answer (inl told) job program input well = 
         absurd (rules_were_read files program (rules_in job) (λ file. Failed files file) (λ file is. inl is) well.has_rules (in_program (FileFault role.Rules) cause).1)
     by_found (FileFault role.Input) cause puts =
         absurd (input_was_read (λ file. Failed files file) (λ file is. inl is) (settings_in job) well.has_input (in_program (FileFault role.Input) cause).1)
+    by_found (FileFault role.Record) cause puts =
+        absurd (record_was_read files (recheck_in job) (λ check. HasReadInput files check × Failed files check.record) (λ check of. inl of.1) well.has_record
+        (in_program (FileFault role.Record) cause).1)
     by_found (TooLong role.Program) cause puts = absurd (was_read (λ file. WasTooLong files file most_bytes) (λ file is. inr is) cause.0)
     by_found (TooLong role.Rules) cause puts =
         absurd (rules_were_read files program (rules_in job) (λ file. WasTooLong files file most_bytes) (λ file is. inr is) well.has_rules (in_program (TooLong role.Rules) cause).1)
     by_found (TooLong role.Input) cause puts =
         absurd (input_was_read (λ file. WasTooLong files file most_bytes) (λ file is. inr is) (settings_in job) well.has_input (in_program (TooLong role.Input) cause).1)
+    by_found (TooLong role.Record) cause puts =
+        absurd (record_was_read files (recheck_in job) (λ check. HasReadInput files check × WasTooLong files check.record most_record_bytes)
+        (λ check of. inr of.1) well.has_record (in_program (TooLong role.Record) cause).1)
     by_found (NotRead read_fault) cause puts =
         absurd (not_both cause.0.text program read_fault (text_read (λ text. Refuses text read_fault) cause.0) cause.0.holds)
     by_found (NotVerified rule at) cause puts =
@@ -353,11 +411,15 @@ complete files hosts sink asked kept answer (inl told) job program input well = 
         (text_read (OfProgram (λ p. IsFirstBroken p hosts (fault rule at))) cause.0) cause.0.holds))
     by_found (RulesRefused why line) cause puts =
         absurd (rules_were_taken files program (rules_in job) why line well.has_rules (in_program (RulesRefused why line) cause).1)
+    by_found (NotRecord line) cause puts = by_puts (NotRecord line) (in_program (NotRecord line) cause).1 puts
+    by_found (RecordBroken clause) cause puts = by_puts (RecordBroken clause) (in_program (RecordBroken clause) cause).1 puts
     by_found (Accepted functions instructions) cause puts =
         by_puts (Accepted functions instructions) (in_program (Accepted functions instructions) cause).1 puts
     by_found (Instrumented target) cause puts = by_puts (Instrumented target) (in_program (Instrumented target) cause).1 puts
+    by_found (RecordHolds steps threads) cause puts = by_puts (RecordHolds steps threads) (in_program (RecordHolds steps threads) cause).1 puts
     by_found Ran cause puts = by_puts Ran (in_program Ran cause).1 puts
     by_found (Loaded seed size) cause puts = by_puts (Loaded seed size) (in_program (Loaded seed size) cause).1 puts
+    by_found Recorded cause puts = by_puts Recorded (in_program Recorded cause).1 puts
     by_found (Hushed rules) cause puts = by_puts (Hushed rules) (in_program (Hushed rules) cause).1 puts
     by_found (Raced races) cause puts = by_puts (Raced races) (in_program (Raced races) cause).1 puts
     by_found (Traced violations) cause puts = by_puts (Traced violations) (in_program (Traced violations) cause).1 puts

@@ -1,9 +1,10 @@
 -- What is found in a text that is no program's, in a file without a program, and in one with it.
 use Rattle.std.proofs.Common.{◌≡◌, ◌≢◌, ◌≤◌, List, ℕ, Option, Some, None, IfSome, Result, Ok, Err, MatchResult, refl, sym, ap, subst, ◌∙◌, arith}
 use Rattle.std.specs.Option.{option_map, IsSomeAnd}
+use Rattle.bsan_ids.specs.declared.numbers.Limits.{Limits}
 use Rattle.bsan_ids.specs.declared.numbers.NoMemory.{NoMemory}
-use Rattle.command_words.specs.Jobs.{Job, Settings, ScheduledRun, default_settings, native_in, on_one_thread}
-use Rattle.command_words.specs.Jobs.Job.{Check, Instrument, Replay, Run, Load, Races, Hush, Explain}
+use Rattle.command_words.specs.Jobs.{Job, RecordCheck, Settings, ScheduledRun, default_settings, native_in, on_one_thread}
+use Rattle.command_words.specs.Jobs.Job.{Check, Instrument, Replay, Run, Load, Races, Record, Recheck, Hush, Explain}
 use Rattle.command_words.specs.Meaning.{native_job_meant}
 use Rattle.command_words.specs.declared.jobs.NativeJob.{NativeJob}
 use Rattle.ir_ast.specs.declared.hosts.HostTable.{HostTable}
@@ -17,16 +18,17 @@ use Rattle.ir_reader.specs.declared.fault.ReadFault.{ReadFault}
 use Rattle.ir_reader.specs.declared.fault.ReadFault.TheVariants as read_fault
 use Rattle.history.specs.Records.{empty_record}
 use Rattle.history.specs.declared.record.RunRecord.{RunRecord}
-use Rattle.bsan.specs.Words.{Text, Origin, origin_of, input_in, rules_in, IsFrom, HasLimits, HasSize}
+use Rattle.bsan.specs.Words.{Text, Origin, origin_of, input_in, rules_in, recheck_in, IsFrom, HasLimits, HasSize}
 use Rattle.bsan.specs.Words.Origin.{InFile, Generated}
 use Rattle.bsan.specs.Seen.{FilesSeen, Failed, WasTooLong, WasRead}
 use Rattle.bsan.specs.Runs.{IsInput, IsScheduledRun, IsNativeRun}
 use Rattle.bsan.specs.Rules.{AreRulesIn, IsRefusedAt, OfRead}
-use Rattle.bsan.specs.Answer.{OfJob, HasProgram, Serves, FindsIn, HasCause, HasReadRules, IsAskedJob, IsNoProgram, IsLoaded, IsUnloaded}
+use Rattle.bsan.specs.Rechecks.{most_record_bytes, IsFoundOf, HasReadInput, OfReadRecord}
+use Rattle.bsan.specs.Answer.{OfJob, HasProgram, Serves, FindsIn, HasCause, IsAskedJob, IsNoProgram, IsLoaded, IsUnloaded}
 use Rattle.suppress.specs.declared.rules.Rules.{Rules}
 use Rattle.bsan.specs.declared.outcome.Role.TheVariants as role
 use Rattle.bsan.specs.declared.outcome.Outcome.{Outcome}
-use Rattle.bsan.specs.declared.outcome.Outcome.TheVariants.{Usage, FileFault, TooLong, NotRead, NotVerified, RulesRefused, Accepted, Instrumented, Ran, Loaded, Hushed, Raced, Traced}
+use Rattle.bsan.specs.declared.outcome.Outcome.TheVariants.{Usage, FileFault, TooLong, NotRead, NotVerified, RulesRefused, NotRecord, RecordBroken, Accepted, Instrumented, RecordHolds, Ran, Loaded, Recorded, Hushed, Raced, Traced}
 
 -- what holds of the file that a program is from, where another holds
 pub of_origin : (P Q : Text → Type 0) (origin : Origin) → ((name : Text) → P name → Q name) → IsFrom P origin → IsFrom Q origin
@@ -53,18 +55,24 @@ unloaded files hosts asked kept job Usage is empty of = absurd of.2
 unloaded files hosts asked kept job (FileFault role.Program) is empty of = (record { job = job; is = is; holds = of }, empty)
 unloaded files hosts asked kept job (FileFault role.Rules) is empty of = absurd of
 unloaded files hosts asked kept job (FileFault role.Input) is empty of = absurd of
+unloaded files hosts asked kept job (FileFault role.Record) is empty of = absurd of
 unloaded files hosts asked kept job (TooLong role.Program) is empty of = (record { job = job; is = is; holds = of }, empty)
 unloaded files hosts asked kept job (TooLong role.Rules) is empty of = absurd of
 unloaded files hosts asked kept job (TooLong role.Input) is empty of = absurd of
+unloaded files hosts asked kept job (TooLong role.Record) is empty of = absurd of
 unloaded files hosts asked kept job (NotRead read_fault) is empty of =
     (record { job = job; is = is; text = of.0; read = of.1; holds = of.2 }, empty)
 unloaded files hosts asked kept job (NotVerified rule at) is empty of =
     (record { job = job; is = is; text = of.0; read = of.1; holds = of.2 }, empty)
 unloaded files hosts asked kept job (RulesRefused why line) is empty of = absurd of.2
+unloaded files hosts asked kept job (NotRecord line) is empty of = absurd of.2
+unloaded files hosts asked kept job (RecordBroken clause) is empty of = absurd of.2
 unloaded files hosts asked kept job (Accepted functions instructions) is empty of = absurd of.2
 unloaded files hosts asked kept job (Instrumented target) is empty of = absurd of.2
+unloaded files hosts asked kept job (RecordHolds steps threads) is empty of = absurd of.2
 unloaded files hosts asked kept job Ran is empty of = absurd of.2
 unloaded files hosts asked kept job (Loaded seed size) is empty of = absurd of.2
+unloaded files hosts asked kept job Recorded is empty of = absurd of.2
 unloaded files hosts asked kept job (Hushed rules) is empty of = absurd of.2
 unloaded files hosts asked kept job (Raced races) is empty of = absurd of.2
 unloaded files hosts asked kept job (Traced violations) is empty of = absurd of.2
@@ -85,23 +93,23 @@ later_failed part whole file later failed =
     rose_before (whole.faults_before file) (part.faults_before file) (part.faults_after file) (whole.faults_after file)
     (later.faults_before file) (later.faults_after file) failed
 
-later_too_long : (part whole : FilesSeen) (file : Text) → IsLaterPart part whole → WasTooLong part file most_bytes → WasTooLong whole file most_bytes
-later_too_long part whole file later long = record {
-  rose = rose_before (whole.overlong_before file most_bytes) (part.overlong_before file most_bytes) (part.overlong_after file most_bytes) (whole.overlong_after file most_bytes)
-      (later.overlong_before file most_bytes) (later.overlong_after file most_bytes) long.rose;
-  longer = subst (IsLongerThan most_bytes) (later.content file) long.longer;
+later_too_long : (part whole : FilesSeen) (file : Text) (limit : ℕ) → IsLaterPart part whole → WasTooLong part file limit → WasTooLong whole file limit
+later_too_long part whole file limit later long = record {
+  rose = rose_before (whole.overlong_before file limit) (part.overlong_before file limit) (part.overlong_after file limit) (whole.overlong_after file limit)
+      (later.overlong_before file limit) (later.overlong_after file limit) long.rose;
+  longer = subst (IsLongerThan limit) (later.content file) long.longer;
 }
 
-same_read : (part whole : FilesSeen) (file : Text) (bytes : List ℕ) → part.content file ≡ whole.content file → WasRead part file most_bytes bytes
-    → WasRead whole file most_bytes bytes
-same_read part whole file bytes same read = record {
+same_read : (part whole : FilesSeen) (file : Text) (limit : ℕ) (bytes : List ℕ) → part.content file ≡ whole.content file → WasRead part file limit bytes
+    → WasRead whole file limit bytes
+same_read part whole file limit bytes same read = record {
   told = subst (λ (o : Option (List ℕ)). Tells o bytes) same read.told;
   within = read.within;
 }
 
 later_input : (part whole : FilesSeen) (file : Option Text) (input : List ℕ) → IsLaterPart part whole → IsInput part file input → IsInput whole file input
 later_input part whole None input later is = is
-later_input part whole (Some file) input later read = same_read part whole file input (later.content file) read
+later_input part whole (Some file) input later read = same_read part whole file most_bytes input (later.content file) read
 
 later_scheduled : (part whole : FilesSeen) (hosts : HostTable) (kept : RunRecord) (program : Program) (run : ScheduledRun) → IsLaterPart part whole
     → IsScheduledRun part hosts kept program run → IsScheduledRun whole hosts kept program run
@@ -115,10 +123,14 @@ of_file : (P Q : Text → Type 0) (file : Option Text) → ((name : Text) → P 
 of_file P Q None implies of = absurd of
 of_file P Q (Some name) implies of = implies name of
 
+pub of_check : (P Q : RecordCheck → Type 0) (check : Option RecordCheck) → ((c : RecordCheck) → P c → Q c) → IsSomeAnd check P → IsSomeAnd check Q
+of_check P Q None implies of = absurd of
+of_check P Q (Some check) implies of = implies check of
+
 -- what holds of the text that was read of a file
 later_read : (part whole : FilesSeen) (P : List ℕ → Type 0) (file : Text) → ((name : Text) → part.content name ≡ whole.content name) → OfRead part file P
     → OfRead whole file P
-later_read part whole P file same of = (of.0, same_read part whole file of.0 (same file) of.1, of.2)
+later_read part whole P file same of = (of.0, same_read part whole file most_bytes of.0 (same file) of.1, of.2)
 
 later_rules : (part whole : FilesSeen) (program : Program) (file : Option Text) → IsLaterPart part whole
     → IfSome file (λ name. OfRead part name (λ text. (rules : Rules) × AreRulesIn program text rules))
@@ -126,6 +138,19 @@ later_rules : (part whole : FilesSeen) (program : Program) (file : Option Text) 
 later_rules part whole program None later of = of
 later_rules part whole program (Some name) later of =
     later_read part whole (λ text. (rules : Rules) × AreRulesIn program text rules) name later.content of
+
+later_has_input : (part whole : FilesSeen) (check : RecordCheck) → IsLaterPart part whole → HasReadInput part check → HasReadInput whole check
+later_has_input part whole check later of = (of.0, later_input part whole check.settings.input of.0 later of.1)
+
+later_record : (part whole : FilesSeen) (P : List ℕ → List ℕ → Type 0) (check : RecordCheck) → IsLaterPart part whole → OfReadRecord part check P
+    → OfReadRecord whole check P
+later_record part whole P check later of = (
+  of.0,
+  later_input part whole check.settings.input of.0 later of.1,
+  of.2,
+  same_read part whole check.record most_record_bytes of.2 (later.content check.record) of.3,
+  of.4,
+)
 
 later_serves : (part whole : FilesSeen) (hosts : HostTable) (kept : RunRecord) (found : Outcome) (program : Program) (job : Job) → IsLaterPart part whole
     → Serves part hosts kept found program job → Serves whole hosts kept found program job
@@ -139,6 +164,10 @@ later_serves part whole hosts kept found program (Load run) later serves =
     (serves.0, later_native part whole hosts kept program default_settings later serves.1)
 later_serves part whole hosts kept found program (Races run) later serves =
     (later_scheduled part whole hosts kept program run later serves.0, serves.1)
+later_serves part whole hosts kept found program (Record run) later serves =
+    (serves.0, later_native part whole hosts kept program run.settings later serves.1)
+later_serves part whole hosts kept found program (Recheck check) later serves =
+    (later_record part whole (λ input text. IsFoundOf program input hosts check.settings.limits text found) check later serves.0, serves.1)
 later_serves part whole hosts kept found program (Hush run) later serves = (
   later_native part whole hosts kept program run.settings later serves.0,
   (serves.1.0, serves.1.1, later_read part whole (λ text. AreRulesIn program text serves.1.0) run.rules later.content serves.1.2),
@@ -161,19 +190,32 @@ later_finds part whole hosts kept (FileFault role.Input) job program later finds
   finds.2,
   later_rules part whole program (rules_in job) later finds.3,
 )
+later_finds part whole hosts kept (FileFault role.Record) job program later finds = (
+  finds.0,
+  of_check (λ check. HasReadInput part check × Failed part check.record) (λ check. HasReadInput whole check × Failed whole check.record) (recheck_in job)
+      (λ check of. (later_has_input part whole check later of.0, later_failed part whole check.record later of.1)) finds.1,
+  finds.2,
+)
 later_finds part whole hosts kept (TooLong role.Program) job program later finds = (finds.0, later_serves part whole hosts kept (TooLong role.Program) program job later finds.1)
 later_finds part whole hosts kept (TooLong role.Rules) job program later finds = (
   finds.0,
   of_file (λ file. WasTooLong part file most_bytes) (λ file. WasTooLong whole file most_bytes) (rules_in job)
-      (λ file long. later_too_long part whole file later long) finds.1,
+      (λ file long. later_too_long part whole file most_bytes later long) finds.1,
   finds.2,
 )
 later_finds part whole hosts kept (TooLong role.Input) job program later finds = (
   finds.0,
   of_file (λ file. WasTooLong part file most_bytes) (λ file. WasTooLong whole file most_bytes) (input_in job)
-      (λ file long. later_too_long part whole file later long) finds.1,
+      (λ file long. later_too_long part whole file most_bytes later long) finds.1,
   finds.2,
   later_rules part whole program (rules_in job) later finds.3,
+)
+later_finds part whole hosts kept (TooLong role.Record) job program later finds = (
+  finds.0,
+  of_check (λ check. HasReadInput part check × WasTooLong part check.record most_record_bytes)
+      (λ check. HasReadInput whole check × WasTooLong whole check.record most_record_bytes) (recheck_in job)
+      (λ check of. (later_has_input part whole check later of.0, later_too_long part whole check.record most_record_bytes later of.1)) finds.1,
+  finds.2,
 )
 later_finds part whole hosts kept (NotRead read_fault) job program later finds = (finds.0, later_serves part whole hosts kept (NotRead read_fault) program job later finds.1)
 later_finds part whole hosts kept (NotVerified rule at) job program later finds = (finds.0, later_serves part whole hosts kept (NotVerified rule at) program job later finds.1)
@@ -183,10 +225,14 @@ later_finds part whole hosts kept (RulesRefused why line) job program later find
       (λ file of. later_read part whole (λ text. IsRefusedAt program text why line) file later.content of) finds.1,
   finds.2,
 )
+later_finds part whole hosts kept (NotRecord line) job program later finds = (finds.0, later_serves part whole hosts kept (NotRecord line) program job later finds.1)
+later_finds part whole hosts kept (RecordBroken clause) job program later finds = (finds.0, later_serves part whole hosts kept (RecordBroken clause) program job later finds.1)
 later_finds part whole hosts kept (Accepted functions instructions) job program later finds = (finds.0, later_serves part whole hosts kept (Accepted functions instructions) program job later finds.1)
 later_finds part whole hosts kept (Instrumented target) job program later finds = (finds.0, later_serves part whole hosts kept (Instrumented target) program job later finds.1)
+later_finds part whole hosts kept (RecordHolds steps threads) job program later finds = (finds.0, later_serves part whole hosts kept (RecordHolds steps threads) program job later finds.1)
 later_finds part whole hosts kept Ran job program later finds = (finds.0, later_serves part whole hosts kept Ran program job later finds.1)
 later_finds part whole hosts kept (Loaded seed size) job program later finds = (finds.0, later_serves part whole hosts kept (Loaded seed size) program job later finds.1)
+later_finds part whole hosts kept Recorded job program later finds = (finds.0, later_serves part whole hosts kept Recorded program job later finds.1)
 later_finds part whole hosts kept (Hushed rules) job program later finds = (finds.0, later_serves part whole hosts kept (Hushed rules) program job later finds.1)
 later_finds part whole hosts kept (Raced races) job program later finds = (finds.0, later_serves part whole hosts kept (Raced races) program job later finds.1)
 later_finds part whole hosts kept (Traced violations) job program later finds = (finds.0, later_serves part whole hosts kept (Traced violations) program job later finds.1)
@@ -201,6 +247,13 @@ IsServing (NotVerified rule at) = ⊥
 IsServing (RulesRefused why line) = ⊥
 IsServing found = Unit {0}
 
+found_serving : (program : Program) (input : List ℕ) (hosts : HostTable) (limits : Limits) (text : List ℕ) (found : Outcome)
+    → IsFoundOf program input hosts limits text found → IsServing found
+found_serving program input hosts limits text (NotRecord line) of = tt
+found_serving program input hosts limits text (RecordBroken clause) of = tt
+found_serving program input hosts limits text (RecordHolds steps threads) of = tt
+found_serving program input hosts limits text found of = absurd of
+
 serving : (files : FilesSeen) (hosts : HostTable) (kept : RunRecord) (found : Outcome) (program : Program) (job : Job) → Serves files hosts kept found program job
     → IsServing found
 serving files hosts kept found program (Check file) serves = subst IsServing (sym serves.0) tt
@@ -209,6 +262,9 @@ serving files hosts kept found program (Replay run) serves = subst IsServing (sy
 serving files hosts kept found program (Run run) serves = subst IsServing (sym serves.0) tt
 serving files hosts kept found program (Load run) serves = subst IsServing (sym serves.0) tt
 serving files hosts kept found program (Races run) serves = subst IsServing (sym serves.1.1) tt
+serving files hosts kept found program (Record run) serves = subst IsServing (sym serves.0) tt
+serving files hosts kept found program (Recheck check) serves =
+    found_serving program serves.0.0 hosts check.settings.limits serves.0.2 found serves.0.4
 serving files hosts kept found program (Hush run) serves = subst IsServing (sym serves.1.1) tt
 serving files hosts kept found program (Explain run) serves = subst IsServing (sym serves.1.1) tt
 
@@ -219,16 +275,22 @@ caused files hosts asked kept Usage of = absurd (serving files hosts kept Usage 
 caused files hosts asked kept (FileFault role.Program) of = absurd (serving files hosts kept (FileFault role.Program) of.program of.job of.holds.1)
 caused files hosts asked kept (FileFault role.Rules) of = of
 caused files hosts asked kept (FileFault role.Input) of = of
+caused files hosts asked kept (FileFault role.Record) of = of
 caused files hosts asked kept (TooLong role.Program) of = absurd (serving files hosts kept (TooLong role.Program) of.program of.job of.holds.1)
 caused files hosts asked kept (TooLong role.Rules) of = of
 caused files hosts asked kept (TooLong role.Input) of = of
+caused files hosts asked kept (TooLong role.Record) of = of
 caused files hosts asked kept (NotRead read_fault) of = absurd (serving files hosts kept (NotRead read_fault) of.program of.job of.holds.1)
 caused files hosts asked kept (NotVerified rule at) of = absurd (serving files hosts kept (NotVerified rule at) of.program of.job of.holds.1)
 caused files hosts asked kept (RulesRefused why line) of = of
+caused files hosts asked kept (NotRecord line) of = of
+caused files hosts asked kept (RecordBroken clause) of = of
 caused files hosts asked kept (Accepted functions instructions) of = of
 caused files hosts asked kept (Instrumented target) of = of
+caused files hosts asked kept (RecordHolds steps threads) of = of
 caused files hosts asked kept Ran of = of
 caused files hosts asked kept (Loaded seed size) of = of
+caused files hosts asked kept Recorded of = of
 caused files hosts asked kept (Hushed rules) of = of
 caused files hosts asked kept (Raced races) of = of
 caused files hosts asked kept (Traced violations) of = of
@@ -237,7 +299,7 @@ caused files hosts asked kept (Traced violations) of = of
 has_program : (first whole : FilesSeen) (hosts : HostTable) (origin : Origin) (verified : Verified) → ((file : Text) → first.content file ≡ whole.content file)
     → IsLoaded first hosts origin verified → HasProgram (λ file text. WasRead whole file most_bytes text) origin verified.program
 has_program first whole hosts (InFile file) verified same loaded =
-    (loaded.0, same_read first whole file loaded.0 (same file) loaded.1, loaded.2.0)
+    (loaded.0, same_read first whole file most_bytes loaded.0 (same file) loaded.1, loaded.2.0)
 has_program first whole hosts (Generated run) verified same loaded = loaded.0
 
 pub loaded_hosts : (files : FilesSeen) (hosts : HostTable) (origin : Origin) (verified : Verified) → IsLoaded files hosts origin verified → verified.hosts ≡ hosts
@@ -283,6 +345,8 @@ native_is (Replay run) native is = absurd cc
 native_is (Run run) native is = cc
 native_is (Load run) native is = cc
 native_is (Races run) native is = absurd cc
+native_is (Record run) native is = cc
+native_is (Recheck check) native is = absurd cc
 native_is (Hush run) native is = cc
 native_is (Explain run) native is = absurd cc
 

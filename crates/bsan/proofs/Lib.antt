@@ -1,7 +1,9 @@
 pub mod Found
+pub mod FoundTexts
 pub mod Limits
 pub mod Legal
 pub mod Reportable
 pub mod Complete
 pub mod Status
 pub mod Hushing
+pub mod Rechecking

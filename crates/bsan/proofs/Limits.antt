@@ -1,7 +1,7 @@
 -- The limits of a run that the words ask for, and the size of a generated program, are in their ranges.
 use Rattle.std.proofs.Common.{◌≡◌, List, Option, Some, None, IfSome, arith}
 use Rattle.command_words.specs.Jobs.{Job, Settings, settings_in, job_of}
-use Rattle.command_words.specs.Jobs.Job.{Check, Instrument, Replay, Run, Load, Races, Hush, Explain}
+use Rattle.command_words.specs.Jobs.Job.{Check, Instrument, Replay, Run, Load, Races, Record, Recheck, Hush, Explain}
 use Rattle.command_words.proofs.Ranges.{AreWithin, limits_in_range, size_in_range}
 use Rattle.core_model.specs.Running.{AreLimits}
 use Rattle.bsan.specs.Words.{Text, HasLimits, HasSize, origin_of}
@@ -27,5 +27,7 @@ has_size words (Replay run) asked = tt
 has_size words (Run run) asked = tt
 has_size words (Load run) asked = size_in_range words run asked
 has_size words (Races run) asked = tt
+has_size words (Record run) asked = tt
+has_size words (Recheck check) asked = tt
 has_size words (Hush run) asked = tt
 has_size words (Explain run) asked = tt

@@ -1,5 +1,5 @@
 -- From the answer of the top call back to what was found.
-use Rattle.std.proofs.Common.{zero, suc, ◌≡◌, ◌≢◌, ◌<◌, ◌≤◌, ◌==◌, ◌||◌, ◌⊎◌, ℕ, Bool, true, false, true≢false, not, List, length, Option, Some, None, if◌then◌else◌, nat_le, refl, sym, ap, ◌∙◌, arith, inl, inr}
+use Rattle.std.proofs.Common.{zero, suc, ◌≡◌, ◌≢◌, ◌<◌, ◌≤◌, ◌==◌, ◌||◌, ◌⊎◌, ℕ, Bool, true, false, true≢false, not, List, length, Option, Some, None, if◌then◌else◌, nat_le, refl, sym, ap, subst, ◌∙◌, arith, inl, inr}
 use Rattle.std.specs.Option.{IsSomeAnd}
 use Rattle.std.specs.Io.KnownBytes.{Appends}
 use Rattle.std.proofs.lemmas.Bool.{leb-true}
@@ -12,17 +12,19 @@ use Rattle.ir_rules.specs.Rules.{IsAccepted}
 use Rattle.race_check.specs.Text.{race_text}
 use Rattle.race_check.specs.declared.race.Race.{Race}
 use Rattle.report.specs.Report.{status_of, any_end, is_no_memory, is_limit, is_trap}
-use Rattle.bsan.specs.Words.{Text, origin_of, input_in, rules_in}
+use Rattle.bsan.specs.Words.{Text, origin_of, input_in, rules_in, recheck_in, IsRecheck}
 use Rattle.bsan.specs.Seen.{FilesSeen, SinkSeen, Failed, WasTooLong, IsFault, Puts}
 use Rattle.bsan.specs.Seen.Puts.{whole, failed, no_memory}
 use Rattle.bsan.specs.Rules.{IsRefusedAt, OfRead}
-use Rattle.bsan.specs.Answer.{OfText, OfProgram, OfJob, FindsIn, HasCause, Answers, text_for, status_for}
-use Rattle.bsan.specs.Causes.{IsCutShort, IsRefused, IsBrokenFirst, IsUnread, HasRefusedLine, HasRefusedRules, HasUnreadFile, ReadCause, TellsRun, RanWhole, RanWith, RacedWhole, AcceptedWhole, InstrumentedWhole, RunCause, PutNothing, MemoryCause, LeavesNone, tells_violation}
-use Rattle.bsan.proofs.Found.{of_origin}
+use Rattle.bsan.specs.Rechecks.{most_record_bytes, IsRightText, IsWrongText, HasReadInput, OfReadRecord, IsRecordFault}
+use Rattle.bsan.specs.Answer.{OfText, OfProgram, OfJob, Serves, FindsIn, HasCause, Answers, IsEmptyOrRight, text_for, status_for}
+use Rattle.bsan.specs.Causes.{IsCutShort, IsRefused, IsBrokenFirst, IsUnread, HasRefusedLine, HasRefusedRules, ReadsRecord, HasUnreadFile, ReadCause, TellsRun, RanWhole, RanWith, RacedWhole, AcceptedWhole, InstrumentedWhole, RecheckedWhole, RunCause, PutNothing, MemoryCause, LeavesNone, tells_violation}
+use Rattle.bsan.proofs.Found.{of_origin, of_check}
+use Rattle.bsan.proofs.FoundTexts.{IsOfText, IsFoundBy, wrong_at_11, right_at_0, of_text, of_recheck, not_of_run}
 use Rattle.bsan.proofs.Reportable.{left}
 use Rattle.bsan.specs.declared.outcome.Role.TheVariants as role
 use Rattle.bsan.specs.declared.outcome.Outcome.{Outcome}
-use Rattle.bsan.specs.declared.outcome.Outcome.TheVariants.{Usage, FileFault, TooLong, NotRead, NotVerified, RulesRefused, Accepted, Instrumented, Ran, Loaded, Hushed, Raced, Traced}
+use Rattle.bsan.specs.declared.outcome.Outcome.TheVariants.{Usage, FileFault, TooLong, NotRead, NotVerified, RulesRefused, NotRecord, RecordBroken, Accepted, Instrumented, RecordHolds, Ran, Loaded, Recorded, Hushed, Raced, Traced}
 
 -- ---- the status of a record, by the ends of its threads and by its violations
 abbrev ranked : Bool → Bool → Bool → Bool → ℕ
@@ -110,10 +112,14 @@ told_as (TooLong of) kept n tells is = absurd tells
 told_as (NotRead read_fault) kept n tells is = absurd tells
 told_as (NotVerified rule at) kept n tells is = absurd tells
 told_as (RulesRefused why line) kept n tells is = absurd tells
+told_as (NotRecord line) kept n tells is = absurd tells
+told_as (RecordBroken clause) kept n tells is = absurd tells
 told_as (Accepted functions instructions) kept n tells is = absurd tells
 told_as (Instrumented target) kept n tells is = absurd tells
+told_as (RecordHolds steps threads) kept n tells is = absurd tells
 told_as Ran kept n tells is = inl is
 told_as (Loaded seed size) kept n tells is = inl is
+told_as Recorded kept n tells is = inl is
 told_as (Hushed rules) kept n tells is = inl is
 told_as (Traced violations) kept n tells is = inl is
 told_as (Raced races) kept n tells is = elim (raced_as n (status_of kept) (length races) is) [ inl own ↦ inl own | inr ten ↦ inr ten.ten ]
@@ -140,6 +146,10 @@ uncut_low : (n : ℕ) → n < 8 → IsCutShort n → ⊥
 uncut_low n low (inl is) = omega (arith, low, is)
 uncut_low n low (inr is) = omega (arith, low, is)
 
+uncut_11 : IsCutShort 11 → ⊥
+uncut_11 (inl is) = omega (arith, is)
+uncut_11 (inr is) = omega (arith, is)
+
 uncut_12 : IsCutShort 12 → ⊥
 uncut_12 (inl is) = omega (arith, is)
 uncut_12 (inr is) = omega (arith, is)
@@ -164,10 +174,14 @@ unread files hosts sink asked kept answer (inl told) is =
     }
     by_found (NotVerified rule at) cause e = absurd (omega (arith, e))
     by_found (RulesRefused why line) cause e = absurd (omega (arith, e))
+    by_found (NotRecord line) cause e = absurd (omega (arith, e))
+    by_found (RecordBroken clause) cause e = absurd (omega (arith, e))
     by_found (Accepted functions instructions) cause e = absurd (omega (arith, e))
     by_found (Instrumented target) cause e = absurd (omega (arith, e))
+    by_found (RecordHolds steps threads) cause e = absurd (omega (arith, e))
     by_found Ran cause e = absurd (not_told Ran kept 3 tt e (λ ten. omega (arith, ten)) refl)
     by_found (Loaded seed size) cause e = absurd (not_told (Loaded seed size) kept 3 tt e (λ ten. omega (arith, ten)) refl)
+    by_found Recorded cause e = absurd (not_told Recorded kept 3 tt e (λ ten. omega (arith, ten)) refl)
     by_found (Hushed rules) cause e = absurd (not_told (Hushed rules) kept 3 tt e (λ ten. omega (arith, ten)) refl)
     by_found (Raced races) cause e = absurd (not_told (Raced races) kept 3 tt e (λ ten. omega (arith, ten)) refl)
     by_found (Traced violations) cause e = absurd (not_told (Traced violations) kept 3 tt e (λ ten. omega (arith, ten)) refl)
@@ -193,10 +207,14 @@ unverified files hosts sink asked kept answer (inl told) is =
       holds = record { program = cause.0.holds.program; reads = cause.0.holds.reads; holds = (rule, at, cause.0.holds.holds) };
     }
     by_found (RulesRefused why line) cause e = absurd (omega (arith, e))
+    by_found (NotRecord line) cause e = absurd (omega (arith, e))
+    by_found (RecordBroken clause) cause e = absurd (omega (arith, e))
     by_found (Accepted functions instructions) cause e = absurd (omega (arith, e))
     by_found (Instrumented target) cause e = absurd (omega (arith, e))
+    by_found (RecordHolds steps threads) cause e = absurd (omega (arith, e))
     by_found Ran cause e = absurd (not_told Ran kept 4 tt e (λ ten. omega (arith, ten)) refl)
     by_found (Loaded seed size) cause e = absurd (not_told (Loaded seed size) kept 4 tt e (λ ten. omega (arith, ten)) refl)
+    by_found Recorded cause e = absurd (not_told Recorded kept 4 tt e (λ ten. omega (arith, ten)) refl)
     by_found (Hushed rules) cause e = absurd (not_told (Hushed rules) kept 4 tt e (λ ten. omega (arith, ten)) refl)
     by_found (Raced races) cause e = absurd (not_told (Raced races) kept 4 tt e (λ ten. omega (arith, ten)) refl)
     by_found (Traced violations) cause e = absurd (not_told (Traced violations) kept 4 tt e (λ ten. omega (arith, ten)) refl)
@@ -215,6 +233,7 @@ read_cause files hosts sink asked kept answer (inl told) is =
   where
     with_file : (found : Outcome) (of : OfJob files asked (FindsIn files hosts kept found)) → IsAccepted of.program hosts
         → IsSomeAnd (rules_in of.job) (λ file. IsFault files file) ⊎ IsSomeAnd (input_in of.job) (λ file. IsFault files file)
+        ⊎ IsSomeAnd (recheck_in of.job) (λ check. IsRecordFault files check)
         → OfJob files asked (HasUnreadFile files hosts)
     with_file found of accepted unread =
         record { job = of.job; is = of.is; program = of.program; has = of.has; holds = record { accepted = accepted; unread = unread } }
@@ -232,7 +251,11 @@ read_cause files hosts sink asked kept answer (inl told) is =
         (inl (of_input (λ file. Failed files file) (λ file. IsFault files file) (rules_in cause.job) (λ file failed. inl failed) cause.holds.1)))
     by_found (FileFault role.Input) cause e =
         inr (with_file (FileFault role.Input) cause cause.holds.0
-        (inr (of_input (λ file. Failed files file) (λ file. IsFault files file) (input_in cause.job) (λ file failed. inl failed) cause.holds.1)))
+        (inr (inl (of_input (λ file. Failed files file) (λ file. IsFault files file) (input_in cause.job) (λ file failed. inl failed) cause.holds.1))))
+    by_found (FileFault role.Record) cause e =
+        inr (with_file (FileFault role.Record) cause cause.holds.0
+        (inr (inr (of_check (λ check. HasReadInput files check × Failed files check.record) (λ check. IsRecordFault files check) (recheck_in cause.job)
+        (λ check of. inl of.1) cause.holds.1))))
     by_found (TooLong role.Program) cause e = inl (record {
       job = cause.0.job;
       is = cause.0.is;
@@ -243,14 +266,22 @@ read_cause files hosts sink asked kept answer (inl told) is =
         (inl (of_input (λ file. WasTooLong files file most_bytes) (λ file. IsFault files file) (rules_in cause.job) (λ file long. inr long) cause.holds.1)))
     by_found (TooLong role.Input) cause e =
         inr (with_file (TooLong role.Input) cause cause.holds.0
-        (inr (of_input (λ file. WasTooLong files file most_bytes) (λ file. IsFault files file) (input_in cause.job) (λ file long. inr long) cause.holds.1)))
+        (inr (inl (of_input (λ file. WasTooLong files file most_bytes) (λ file. IsFault files file) (input_in cause.job) (λ file long. inr long) cause.holds.1))))
+    by_found (TooLong role.Record) cause e =
+        inr (with_file (TooLong role.Record) cause cause.holds.0
+        (inr (inr (of_check (λ check. HasReadInput files check × WasTooLong files check.record most_record_bytes) (λ check. IsRecordFault files check)
+        (recheck_in cause.job) (λ check of. inr of.1) cause.holds.1))))
     by_found (NotRead read_fault) cause e = absurd (omega (arith, e))
     by_found (NotVerified rule at) cause e = absurd (omega (arith, e))
     by_found (RulesRefused why line) cause e = absurd (omega (arith, e))
+    by_found (NotRecord line) cause e = absurd (omega (arith, e))
+    by_found (RecordBroken clause) cause e = absurd (omega (arith, e))
     by_found (Accepted functions instructions) cause e = absurd (omega (arith, e))
     by_found (Instrumented target) cause e = absurd (omega (arith, e))
+    by_found (RecordHolds steps threads) cause e = absurd (omega (arith, e))
     by_found Ran cause e = absurd (not_told Ran kept 7 tt e (λ ten. omega (arith, ten)) refl)
     by_found (Loaded seed size) cause e = absurd (not_told (Loaded seed size) kept 7 tt e (λ ten. omega (arith, ten)) refl)
+    by_found Recorded cause e = absurd (not_told Recorded kept 7 tt e (λ ten. omega (arith, ten)) refl)
     by_found (Hushed rules) cause e = absurd (not_told (Hushed rules) kept 7 tt e (λ ten. omega (arith, ten)) refl)
     by_found (Raced races) cause e = absurd (not_told (Raced races) kept 7 tt e (λ ten. omega (arith, ten)) refl)
     by_found (Traced violations) cause e = absurd (not_told (Traced violations) kept 7 tt e (λ ten. omega (arith, ten)) refl)
@@ -280,25 +311,138 @@ refused_rules files hosts sink asked kept answer (inl told) is =
             (λ file of. (of.0, of.1, (why, line, of.2))) cause.holds.1;
       };
     }
+    by_found (NotRecord line) cause e = absurd (omega (arith, e))
+    by_found (RecordBroken clause) cause e = absurd (omega (arith, e))
     by_found (Accepted functions instructions) cause e = absurd (omega (arith, e))
     by_found (Instrumented target) cause e = absurd (omega (arith, e))
+    by_found (RecordHolds steps threads) cause e = absurd (omega (arith, e))
     by_found Ran cause e = absurd (not_told Ran kept 12 tt e (λ ten. omega (arith, ten)) refl)
     by_found (Loaded seed size) cause e = absurd (not_told (Loaded seed size) kept 12 tt e (λ ten. omega (arith, ten)) refl)
+    by_found Recorded cause e = absurd (not_told Recorded kept 12 tt e (λ ten. omega (arith, ten)) refl)
     by_found (Hushed rules) cause e = absurd (not_told (Hushed rules) kept 12 tt e (λ ten. omega (arith, ten)) refl)
     by_found (Raced races) cause e = absurd (not_told (Raced races) kept 12 tt e (λ ten. omega (arith, ten)) refl)
     by_found (Traced violations) cause e = absurd (not_told (Traced violations) kept 12 tt e (λ ten. omega (arith, ten)) refl)
 
--- 2, 3, 4, 7 and 12: no record is left
+-- 11: the record's text is not that of a right record
+pub wrong_record : (files : FilesSeen) (hosts : HostTable) (sink : SinkSeen) (asked : Option Job) (kept : RunRecord) (answer : ℕ)
+    → Answers files hosts sink asked kept answer → answer ≡ 11 → OfJob files asked (ReadsRecord IsWrongText files hosts)
+wrong_record files hosts sink asked kept answer (inr out) is = absurd (let nine = out.status in omega arith)
+wrong_record files hosts sink asked kept answer (inl told) is =
+    by_found told.found told.cause (put_whole sink _ (status_for told.found kept) answer 11 told.puts is uncut_11).0
+  where
+    with_text : (found : Outcome) → IsOfText found → (of : OfJob files asked (FindsIn files hosts kept found)) → IsAccepted of.program hosts
+        → Serves files hosts kept found of.program of.job → 11 ≡ status_for found kept → OfJob files asked (ReadsRecord IsWrongText files hosts)
+    with_text found one of accepted serves e = record {
+      job = of.job;
+      is = of.is;
+      program = of.program;
+      has = of.has;
+      holds = record {
+        accepted = accepted;
+        holds = of_check (IsFoundBy files hosts of.program found)
+            (λ check. OfReadRecord files check (λ input text. IsWrongText of.program input hosts check.settings.limits text)) (recheck_in of.job)
+            (λ check read. (
+              read.0,
+              read.1,
+              read.2,
+              read.3,
+              wrong_at_11 of.program read.0 hosts check.settings.limits read.2 kept found read.4 e,
+            )) (of_text files hosts kept found of.program of.job one serves).0;
+      };
+    }
+
+    by_found : (found : Outcome) → HasCause files hosts asked kept found → 11 ≡ status_for found kept → OfJob files asked (ReadsRecord IsWrongText files hosts)
+    by_found Usage cause e = absurd (omega (arith, e))
+    by_found (FileFault of) cause e = absurd (omega (arith, e))
+    by_found (TooLong of) cause e = absurd (omega (arith, e))
+    by_found (NotRead read_fault) cause e = absurd (omega (arith, e))
+    by_found (NotVerified rule at) cause e = absurd (omega (arith, e))
+    by_found (RulesRefused why line) cause e = absurd (omega (arith, e))
+    by_found (NotRecord line) cause e = with_text (NotRecord line) tt cause cause.holds.0 cause.holds.1 e
+    by_found (RecordBroken clause) cause e = with_text (RecordBroken clause) tt cause cause.holds.0 cause.holds.1 e
+    by_found (Accepted functions instructions) cause e = absurd (omega (arith, e))
+    by_found (Instrumented target) cause e = absurd (omega (arith, e))
+    by_found (RecordHolds steps threads) cause e = absurd (omega (arith, e))
+    by_found Ran cause e = absurd (not_told Ran kept 11 tt e (λ ten. omega (arith, ten)) refl)
+    by_found (Loaded seed size) cause e = absurd (not_told (Loaded seed size) kept 11 tt e (λ ten. omega (arith, ten)) refl)
+    by_found Recorded cause e = absurd (not_told Recorded kept 11 tt e (λ ten. omega (arith, ten)) refl)
+    by_found (Hushed rules) cause e = absurd (not_told (Hushed rules) kept 11 tt e (λ ten. omega (arith, ten)) refl)
+    by_found (Raced races) cause e = absurd (not_told (Raced races) kept 11 tt e (λ ten. omega (arith, ten)) refl)
+    by_found (Traced violations) cause e = absurd (not_told (Traced violations) kept 11 tt e (λ ten. omega (arith, ten)) refl)
+
+-- 0 of a check of a record: the record's text is that of a right record
+pub right_record : (files : FilesSeen) (hosts : HostTable) (sink : SinkSeen) (asked : Option Job) (kept : RunRecord) (answer : ℕ)
+    → Answers files hosts sink asked kept answer → IsSomeAnd asked IsRecheck → answer ≡ 0 → OfJob files asked (ReadsRecord IsRightText files hosts)
+right_record files hosts sink asked kept answer (inr out) checks is = absurd (let nine = out.status in omega (arith, nine, is))
+right_record files hosts sink asked kept answer (inl told) checks is =
+    by_found told.found told.cause (put_whole sink _ (status_for told.found kept) answer 0 told.puts is (uncut_low 0 (omega arith))).0
+  where
+    with_text : (found : Outcome) (of : OfJob files asked (FindsIn files hosts kept found)) → IsAccepted of.program hosts
+        → Serves files hosts kept found of.program of.job → 0 ≡ status_for found kept → OfJob files asked (ReadsRecord IsRightText files hosts)
+    with_text found of accepted serves e = record {
+      job = of.job;
+      is = of.is;
+      program = of.program;
+      has = of.has;
+      holds = record {
+        accepted = accepted;
+        holds = of_check (IsFoundBy files hosts of.program found)
+            (λ check. OfReadRecord files check (λ input text. IsRightText of.program input hosts check.settings.limits text)) (recheck_in of.job)
+            (λ check read. (
+              read.0,
+              read.1,
+              read.2,
+              read.3,
+              right_at_0 of.program read.0 hosts check.settings.limits read.2 kept found read.4 e,
+            )) (of_recheck files hosts kept found of.program of.job (subst (λ (a : Option Job). IsSomeAnd a IsRecheck) of.is checks) serves);
+      };
+    }
+
+    by_found : (found : Outcome) → HasCause files hosts asked kept found → 0 ≡ status_for found kept → OfJob files asked (ReadsRecord IsRightText files hosts)
+    by_found Usage cause e = absurd (omega (arith, e))
+    by_found (FileFault of) cause e = absurd (omega (arith, e))
+    by_found (TooLong of) cause e = absurd (omega (arith, e))
+    by_found (NotRead read_fault) cause e = absurd (omega (arith, e))
+    by_found (NotVerified rule at) cause e = absurd (omega (arith, e))
+    by_found (RulesRefused why line) cause e = absurd (omega (arith, e))
+    by_found (NotRecord line) cause e = absurd (omega (arith, e))
+    by_found (RecordBroken clause) cause e = absurd (omega (arith, e))
+    by_found (Accepted functions instructions) cause e = with_text (Accepted functions instructions) cause cause.holds.0 cause.holds.1 e
+    by_found (Instrumented target) cause e = with_text (Instrumented target) cause cause.holds.0 cause.holds.1 e
+    by_found (RecordHolds steps threads) cause e = with_text (RecordHolds steps threads) cause cause.holds.0 cause.holds.1 e
+    by_found Ran cause e = with_text Ran cause cause.holds.0 cause.holds.1 e
+    by_found (Loaded seed size) cause e = with_text (Loaded seed size) cause cause.holds.0 cause.holds.1 e
+    by_found Recorded cause e = with_text Recorded cause cause.holds.0 cause.holds.1 e
+    by_found (Hushed rules) cause e = with_text (Hushed rules) cause cause.holds.0 cause.holds.1 e
+    by_found (Raced races) cause e = with_text (Raced races) cause cause.holds.0 cause.holds.1 e
+    by_found (Traced violations) cause e = with_text (Traced violations) cause cause.holds.0 cause.holds.1 e
+
+-- a check of a record leaves none
+pub leaves_none : (files : FilesSeen) (hosts : HostTable) (sink : SinkSeen) (asked : Option Job) (kept : RunRecord) (answer : ℕ)
+    → Answers files hosts sink asked kept answer → IsSomeAnd asked IsRecheck → kept ≡ empty_record
+leaves_none files hosts sink asked kept answer answers checks = by_answers answers
+  where
+    by_record : IsEmptyOrRight files hosts asked kept → kept ≡ empty_record
+    by_record (inl is) = is
+    by_record (inr run) =
+        absurd (not_of_run files hosts kept run.program run.job (subst (λ (a : Option Job). IsSomeAnd a IsRecheck) run.is checks) run.holds.1)
+
+    by_answers : Answers files hosts sink asked kept answer → kept ≡ empty_record
+    by_answers (inl told) = by_record (left files hosts asked kept told.found told.cause)
+    by_answers (inr out) = by_record out.record_kept
+
+-- 2, 3, 4, 7, 11 and 12: no record is left
 pub no_record : (files : FilesSeen) (hosts : HostTable) (sink : SinkSeen) (asked : Option Job) (kept : RunRecord) (answer : ℕ)
     → Answers files hosts sink asked kept answer → LeavesNone kept answer
 no_record files hosts sink asked kept answer (inr out) is = absurd (nine out.status is)
   where
-    nine : answer ≡ 9 → (answer ≡ 2) ⊎ (answer ≡ 3) ⊎ (answer ≡ 4) ⊎ (answer ≡ 7) ⊎ (answer ≡ 12) → ⊥
+    nine : answer ≡ 9 → (answer ≡ 2) ⊎ (answer ≡ 3) ⊎ (answer ≡ 4) ⊎ (answer ≡ 7) ⊎ (answer ≡ 11) ⊎ (answer ≡ 12) → ⊥
     nine at (inl e) = omega (arith, at, e)
     nine at (inr (inl e)) = omega (arith, at, e)
     nine at (inr (inr (inl e))) = omega (arith, at, e)
     nine at (inr (inr (inr (inl e)))) = omega (arith, at, e)
-    nine at (inr (inr (inr (inr e)))) = omega (arith, at, e)
+    nine at (inr (inr (inr (inr (inl e))))) = omega (arith, at, e)
+    nine at (inr (inr (inr (inr (inr e))))) = omega (arith, at, e)
 no_record files hosts sink asked kept answer (inl told) is = by_status is
   where
     by_found : (n : ℕ) (found : Outcome) → HasCause files hosts asked kept found → n ≡ status_for found kept → n ≢ 0 → n ≢ 10 → is_run_status n ≡ false
@@ -307,16 +451,23 @@ no_record files hosts sink asked kept answer (inl told) is = by_status is
     by_found n (FileFault role.Program) cause e low other unlike = cause.1
     by_found n (FileFault role.Rules) cause e low other unlike = cause.holds.2
     by_found n (FileFault role.Input) cause e low other unlike = cause.holds.2
+    by_found n (FileFault role.Record) cause e low other unlike = cause.holds.2
     by_found n (TooLong role.Program) cause e low other unlike = cause.1
     by_found n (TooLong role.Rules) cause e low other unlike = cause.holds.2
     by_found n (TooLong role.Input) cause e low other unlike = cause.holds.2
+    by_found n (TooLong role.Record) cause e low other unlike = cause.holds.2
     by_found n (NotRead read_fault) cause e low other unlike = cause.1
     by_found n (NotVerified rule at) cause e low other unlike = cause.1
     by_found n (RulesRefused why line) cause e low other unlike = cause.holds.2
+    by_found n (NotRecord line) cause e low other unlike = (of_text files hosts kept (NotRecord line) cause.program cause.job tt cause.holds.1).1
+    by_found n (RecordBroken clause) cause e low other unlike =
+        (of_text files hosts kept (RecordBroken clause) cause.program cause.job tt cause.holds.1).1
     by_found n (Accepted functions instructions) cause e low other unlike = absurd (low e)
     by_found n (Instrumented target) cause e low other unlike = absurd (low e)
+    by_found n (RecordHolds steps threads) cause e low other unlike = absurd (low e)
     by_found n Ran cause e low other unlike = absurd (not_told Ran kept n tt e other unlike)
     by_found n (Loaded seed size) cause e low other unlike = absurd (not_told (Loaded seed size) kept n tt e other unlike)
+    by_found n Recorded cause e low other unlike = absurd (not_told Recorded kept n tt e other unlike)
     by_found n (Hushed rules) cause e low other unlike = absurd (not_told (Hushed rules) kept n tt e other unlike)
     by_found n (Raced races) cause e low other unlike = absurd (not_told (Raced races) kept n tt e other unlike)
     by_found n (Traced violations) cause e low other unlike = absurd (not_told (Traced violations) kept n tt e other unlike)
@@ -328,12 +479,13 @@ no_record files hosts sink asked kept answer (inl told) is = by_status is
     low : (n : ℕ) → answer ≡ n → n < 8 → n ≢ 0 → is_run_status n ≡ false → kept ≡ empty_record
     low n e small some unlike = at n e (uncut_low n small) some (λ ten. omega (arith, small, ten)) unlike
 
-    by_status : (answer ≡ 2) ⊎ (answer ≡ 3) ⊎ (answer ≡ 4) ⊎ (answer ≡ 7) ⊎ (answer ≡ 12) → kept ≡ empty_record
+    by_status : (answer ≡ 2) ⊎ (answer ≡ 3) ⊎ (answer ≡ 4) ⊎ (answer ≡ 7) ⊎ (answer ≡ 11) ⊎ (answer ≡ 12) → kept ≡ empty_record
     by_status (inl e) = low 2 e (omega arith) (λ z. omega (arith, z)) refl
     by_status (inr (inl e)) = low 3 e (omega arith) (λ z. omega (arith, z)) refl
     by_status (inr (inr (inl e))) = low 4 e (omega arith) (λ z. omega (arith, z)) refl
     by_status (inr (inr (inr (inl e)))) = low 7 e (omega arith) (λ z. omega (arith, z)) refl
-    by_status (inr (inr (inr (inr e)))) = at 12 e uncut_12 (λ z. omega (arith, z)) (λ ten. omega (arith, ten)) refl
+    by_status (inr (inr (inr (inr (inl e))))) = at 11 e uncut_11 (λ z. omega (arith, z)) (λ ten. omega (arith, ten)) refl
+    by_status (inr (inr (inr (inr (inr e))))) = at 12 e uncut_12 (λ z. omega (arith, z)) (λ ten. omega (arith, ten)) refl
 
 -- ---- statuses of runs
 -- a run, of which the whole text was put
@@ -371,19 +523,23 @@ run_with files hosts sink asked kept answer n holds (inl told) is small some run
     by_found (NotRead read_fault) cause e text = absurd (other 3 e refl)
     by_found (NotVerified rule at) cause e text = absurd (other 4 e refl)
     by_found (RulesRefused why line) cause e text = absurd (other 12 e refl)
+    by_found (NotRecord line) cause e text = absurd (other 11 e refl)
+    by_found (RecordBroken clause) cause e text = absurd (other 11 e refl)
     by_found (Accepted functions instructions) cause e text = absurd (some e)
     by_found (Instrumented target) cause e text = absurd (some e)
+    by_found (RecordHolds steps threads) cause e text = absurd (some e)
     by_found Ran cause e text = a_run Ran tt cause e text
     by_found (Loaded seed size) cause e text = a_run (Loaded seed size) tt cause e text
+    by_found Recorded cause e text = a_run Recorded tt cause e text
     by_found (Hushed rules) cause e text = a_run (Hushed rules) tt cause e text
     by_found (Raced races) cause e text = a_run (Raced races) tt cause e text
     by_found (Traced violations) cause e text = a_run (Traced violations) tt cause e text
 
--- 0: a run without violations, or a program that was accepted, or its target code
+-- 0: a run without violations, or a program that was accepted, or its target code, or a right record
 clean : (files : FilesSeen) (hosts : HostTable) (sink : SinkSeen) (asked : Option Job) (kept : RunRecord) (answer : ℕ)
     → Answers files hosts sink asked kept answer → answer ≡ 0
     → RanWith files hosts sink asked kept answer (λ found. not (tells_violation found kept)) ⊎ AcceptedWhole files hosts sink asked kept
-    ⊎ InstrumentedWhole files hosts sink asked kept
+    ⊎ InstrumentedWhole files hosts sink asked kept ⊎ RecheckedWhole files hosts sink asked kept
 clean files hosts sink asked kept answer (inr out) is = absurd (let nine = out.status in omega (arith, nine, is))
 clean files hosts sink asked kept answer (inl told) is =
     let put = put_whole sink (text_for told.found kept) (status_for told.found kept) answer 0 told.puts is (uncut_low 0 (omega arith)) in
@@ -400,18 +556,23 @@ clean files hosts sink asked kept answer (inl told) is =
     by_found : (found : Outcome) → HasCause files hosts asked kept found → 0 ≡ status_for found kept
         → Appends sink.taken_before sink.taken_after (text_for found kept)
         → RanWith files hosts sink asked kept answer (λ found. not (tells_violation found kept)) ⊎ AcceptedWhole files hosts sink asked kept
-        ⊎ InstrumentedWhole files hosts sink asked kept
+        ⊎ InstrumentedWhole files hosts sink asked kept ⊎ RecheckedWhole files hosts sink asked kept
     by_found Usage cause e text = absurd (omega (arith, e))
     by_found (FileFault of) cause e text = absurd (omega (arith, e))
     by_found (TooLong of) cause e text = absurd (omega (arith, e))
     by_found (NotRead read_fault) cause e text = absurd (omega (arith, e))
     by_found (NotVerified rule at) cause e text = absurd (omega (arith, e))
     by_found (RulesRefused why line) cause e text = absurd (omega (arith, e))
+    by_found (NotRecord line) cause e text = absurd (omega (arith, e))
+    by_found (RecordBroken clause) cause e text = absurd (omega (arith, e))
     by_found (Accepted functions instructions) cause e text =
         inr (inl (record { functions = functions; instructions = instructions; cause = cause; text = text }))
-    by_found (Instrumented target) cause e text = inr (inr (record { target = target; cause = cause; text = text }))
+    by_found (Instrumented target) cause e text = inr (inr (inl (record { target = target; cause = cause; text = text })))
+    by_found (RecordHolds steps threads) cause e text =
+        inr (inr (inr (record { steps = steps; threads = threads; cause = cause; text = text })))
     by_found Ran cause e text = inl (a_run Ran tt cause e text)
     by_found (Loaded seed size) cause e text = inl (a_run (Loaded seed size) tt cause e text)
+    by_found Recorded cause e text = inl (a_run Recorded tt cause e text)
     by_found (Hushed rules) cause e text = inl (a_run (Hushed rules) tt cause e text)
     by_found (Raced races) cause e text = inl (a_run (Raced races) tt cause e text)
     by_found (Traced violations) cause e text = inl (a_run (Traced violations) tt cause e text)
@@ -450,15 +611,20 @@ raced files hosts sink asked kept answer (inl told) is =
     by_found (NotRead read_fault) cause e text = absurd (omega (arith, e))
     by_found (NotVerified rule at) cause e text = absurd (omega (arith, e))
     by_found (RulesRefused why line) cause e text = absurd (omega (arith, e))
+    by_found (NotRecord line) cause e text = absurd (omega (arith, e))
+    by_found (RecordBroken clause) cause e text = absurd (omega (arith, e))
     by_found (Accepted functions instructions) cause e text = absurd (omega (arith, e))
     by_found (Instrumented target) cause e text = absurd (omega (arith, e))
+    by_found (RecordHolds steps threads) cause e text = absurd (omega (arith, e))
     by_found Ran cause e text = absurd (not_own Ran e)
     by_found (Loaded seed size) cause e text = absurd (not_own (Loaded seed size) e)
+    by_found Recorded cause e text = absurd (not_own Recorded e)
     by_found (Hushed rules) cause e text = absurd (not_own (Hushed rules) e)
     by_found (Raced races) cause e text = with_races races cause (raced_as 10 (status_of kept) (length races) e) text
     by_found (Traced violations) cause e text = absurd (not_own (Traced violations) e)
 
--- 0, 1, 5, 6 and 10: a run of which the whole text was put; 0 also: a program was accepted, or its target code made
+-- 0, 1, 5, 6 and 10: a run of which the whole text was put; 0 also: a program was accepted, or its target code made, or a record
+-- found right
 pub run_cause : (files : FilesSeen) (hosts : HostTable) (sink : SinkSeen) (asked : Option Job) (kept : RunRecord) (answer : ℕ)
     → Answers files hosts sink asked kept answer → RunCause files hosts sink asked kept answer
 run_cause files hosts sink asked kept answer answers = record {
@@ -494,10 +660,14 @@ memory_cause files hosts sink asked kept answer (inl told) is = by_puts told.put
     by_found (NotRead read_fault) cause e text = absurd (omega (arith, e, is))
     by_found (NotVerified rule at) cause e text = absurd (omega (arith, e, is))
     by_found (RulesRefused why line) cause e text = absurd (omega (arith, e, is))
+    by_found (NotRecord line) cause e text = absurd (omega (arith, e, is))
+    by_found (RecordBroken clause) cause e text = absurd (omega (arith, e, is))
     by_found (Accepted functions instructions) cause e text = absurd (omega (arith, e, is))
     by_found (Instrumented target) cause e text = absurd (omega (arith, e, is))
+    by_found (RecordHolds steps threads) cause e text = absurd (omega (arith, e, is))
     by_found Ran cause e text = a_run Ran tt cause e text
     by_found (Loaded seed size) cause e text = a_run (Loaded seed size) tt cause e text
+    by_found Recorded cause e text = a_run Recorded tt cause e text
     by_found (Hushed rules) cause e text = a_run (Hushed rules) tt cause e text
     by_found (Raced races) cause e text = a_run (Raced races) tt cause e text
     by_found (Traced violations) cause e text = a_run (Traced violations) tt cause e text

@@ -3,7 +3,7 @@ use Rattle.std.specs.Prelude.{◌≡◌, ◌⊎◌, ℕ, List, length, Option, S
 use Rattle.std.specs.List.{sum_by}
 use Rattle.std.specs.Io.KnownBytes.{Keeps}
 use Rattle.command_words.specs.Jobs.{Job, default_settings, on_one_thread}
-use Rattle.command_words.specs.Jobs.Job.{Check, Instrument, Replay, Run, Load, Races, Hush, Explain}
+use Rattle.command_words.specs.Jobs.Job.{Check, Instrument, Replay, Run, Load, Races, Record, Recheck, Hush, Explain}
 use Rattle.command_words.specs.Meaning.{native_job_meant}
 use Rattle.command_words.specs.declared.jobs.NativeJob.{NativeJob}
 use Rattle.ir_ast.specs.Programs.{function_instructions}
@@ -31,17 +31,19 @@ use Rattle.explain.specs.Text.{explain_text}
 use Rattle.explain.specs.declared.explained.Explained.{Explained}
 use Rattle.suppress.specs.Held.{held_text, held_status}
 use Rattle.suppress.specs.declared.rules.Rules.{Rules}
+use Rattle.record_text.specs.Lines.{record_text}
 use Rattle.workload.specs.Made.{made}
-use Rattle.bsan.specs.Words.{Text, Origin, origin_of, input_in, rules_in, IsFrom, HasLimits, HasSize}
+use Rattle.bsan.specs.Words.{Text, Origin, origin_of, input_in, rules_in, recheck_in, IsFrom, HasLimits, HasSize}
 use Rattle.bsan.specs.Words.Origin.{InFile, Generated}
 use Rattle.bsan.specs.Seen.{FilesSeen, SinkSeen, Failed, WasTooLong, WasRead, Puts}
-use Rattle.bsan.specs.Lines.{usage_text, file_fault_line, too_long_line, fault_line, rule_line, rules_line, load_text, accepted_line}
+use Rattle.bsan.specs.Lines.{usage_text, file_fault_line, too_long_line, fault_line, rule_line, rules_line, record_line, clause_line, holds_line, load_text, accepted_line}
 use Rattle.bsan.specs.Runs.{IsScheduledRun, IsNativeRun, IsOfRun}
 use Rattle.bsan.specs.Rules.{AreRulesIn, IsRefusedAt, OfRead}
+use Rattle.bsan.specs.Rechecks.{most_record_bytes, IsFoundOf, HasReadInput, OfReadRecord}
 use Rattle.bsan.specs.declared.outcome.Role.{Role}
 use Rattle.bsan.specs.declared.outcome.Role.TheVariants as role
 use Rattle.bsan.specs.declared.outcome.Outcome.{Outcome}
-use Rattle.bsan.specs.declared.outcome.Outcome.TheVariants.{Usage, FileFault, TooLong, NotRead, NotVerified, RulesRefused, Accepted, Instrumented, Ran, Loaded, Hushed, Raced, Traced}
+use Rattle.bsan.specs.declared.outcome.Outcome.TheVariants.{Usage, FileFault, TooLong, NotRead, NotVerified, RulesRefused, NotRecord, RecordBroken, Accepted, Instrumented, RecordHolds, Ran, Loaded, Recorded, Hushed, Raced, Traced}
 
 -- what was found is what the verifier told
 abbrev pub IsBrokenRule : VerifyFault → Outcome → Type 0
@@ -70,10 +72,14 @@ status_for (TooLong of) kept = 7
 status_for (NotRead read_fault) kept = 3
 status_for (NotVerified rule at) kept = 4
 status_for (RulesRefused why line) kept = 12
+status_for (NotRecord line) kept = 11
+status_for (RecordBroken clause) kept = 11
 status_for (Accepted functions instructions) kept = 0
 status_for (Instrumented target) kept = 0
+status_for (RecordHolds steps threads) kept = 0
 status_for Ran kept = status_of kept
 status_for (Loaded seed size) kept = status_of kept
+status_for Recorded kept = status_of kept
 status_for (Hushed rules) kept = held_status rules kept
 status_for (Raced races) kept = race_status kept races
 status_for (Traced violations) kept = status_of kept
@@ -86,10 +92,14 @@ text_for (TooLong of) kept = too_long_line of
 text_for (NotRead read_fault) kept = fault_line read_fault
 text_for (NotVerified rule at) kept = rule_line rule at
 text_for (RulesRefused why line) kept = rules_line why line
+text_for (NotRecord line) kept = record_line line
+text_for (RecordBroken clause) kept = clause_line clause
 text_for (Accepted functions instructions) kept = accepted_line functions instructions
 text_for (Instrumented target) kept = target_text target
+text_for (RecordHolds steps threads) kept = holds_line steps threads
 text_for Ran kept = text_of kept
 text_for (Loaded seed size) kept = load_text seed size kept
+text_for Recorded kept = record_text kept
 text_for (Hushed rules) kept = held_text rules kept
 text_for (Raced races) kept = race_text kept races
 text_for (Traced violations) kept = explain_text kept violations
@@ -162,9 +172,11 @@ abbrev pub IsUnloaded : FilesSeen → HostTable → Origin → Outcome → Type 
 IsUnloaded files hosts origin (FileFault role.Program) = IsFrom (λ file. Failed files file) origin
 IsUnloaded files hosts origin (FileFault role.Rules) = ⊥
 IsUnloaded files hosts origin (FileFault role.Input) = ⊥
+IsUnloaded files hosts origin (FileFault role.Record) = ⊥
 IsUnloaded files hosts origin (TooLong role.Program) = IsFrom (λ file. WasTooLong files file most_bytes) origin
 IsUnloaded files hosts origin (TooLong role.Rules) = ⊥
 IsUnloaded files hosts origin (TooLong role.Input) = ⊥
+IsUnloaded files hosts origin (TooLong role.Record) = ⊥
 IsUnloaded files hosts origin found = (text : List ℕ) × IsFrom (λ file. WasRead files file most_bytes text) origin × IsNoProgram hosts text found
 
 -- what was found is the rules that were read of a file, for this program
@@ -186,6 +198,9 @@ Serves files hosts kept found program (Run run) = (found ≡ Ran) × IsNativeRun
 Serves files hosts kept found program (Load run) =
     (found ≡ Loaded run.seed run.size) × IsNativeRun files hosts kept program default_settings
 Serves files hosts kept found program (Races run) = IsScheduledRun files hosts kept program run × IsRaced kept found
+Serves files hosts kept found program (Record run) = (found ≡ Recorded) × IsNativeRun files hosts kept program run.settings
+Serves files hosts kept found program (Recheck check) =
+    OfReadRecord files check (λ input text. IsFoundOf program input hosts check.settings.limits text found) × (kept ≡ empty_record)
 Serves files hosts kept found program (Hush run) =
     IsNativeRun files hosts kept program run.settings × AreHeldBy files program run.rules found
 Serves files hosts kept found program (Explain run) = IsScheduledRun files hosts kept program run × IsTraced kept found
@@ -202,6 +217,11 @@ FindsIn files hosts kept (FileFault role.Input) job program =
     IsAccepted program hosts × IsSomeAnd (input_in job) (λ file. Failed files file) × (kept ≡ empty_record) × HasReadRules files program job
 FindsIn files hosts kept (TooLong role.Input) job program =
     IsAccepted program hosts × IsSomeAnd (input_in job) (λ file. WasTooLong files file most_bytes) × (kept ≡ empty_record) × HasReadRules files program job
+FindsIn files hosts kept (FileFault role.Record) job program =
+    IsAccepted program hosts × IsSomeAnd (recheck_in job) (λ check. HasReadInput files check × Failed files check.record) × (kept ≡ empty_record)
+FindsIn files hosts kept (TooLong role.Record) job program =
+    IsAccepted program hosts × IsSomeAnd (recheck_in job) (λ check. HasReadInput files check × WasTooLong files check.record most_record_bytes)
+    × (kept ≡ empty_record)
 FindsIn files hosts kept found job program = IsAccepted program hosts × Serves files hosts kept found program job
 
 -- why the work found this, and what record it left

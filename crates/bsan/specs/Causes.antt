@@ -1,10 +1,10 @@
 -- What follows from the answer of the top call: the cause of each status, and completeness.
-use Rattle.std.specs.Prelude.{◌≡◌, ◌≢◌, ◌⊎◌, ◌≤◌, ℕ, Bool, true, not, List, [], Option, length, Some, None, IsSomeAnd, IfSome}
+use Rattle.std.specs.Prelude.{◌≡◌, ◌≢◌, ◌⊎◌, ◌↔◌, ◌≤◌, ℕ, Bool, true, not, List, [], Option, length, Some, None, IsSomeAnd, IfSome}
 use Rattle.std.specs.List.{list_any, sum_by}
 use Rattle.std.specs.Io.KnownBytes.{Appends, Keeps}
 use Rattle.outside_io.specs.Counts.{Rose}
-use Rattle.command_words.specs.Jobs.{Job, HeldRun, Settings, LoadRun, ScheduledRun, default_settings, settings_in}
-use Rattle.command_words.specs.Jobs.Job.{Check, Instrument, Replay, Run, Load, Races, Hush, Explain}
+use Rattle.command_words.specs.Jobs.{Job, HeldRun, RecordCheck, Settings, LoadRun, ScheduledRun, default_settings, settings_in}
+use Rattle.command_words.specs.Jobs.Job.{Check, Instrument, Replay, Run, Load, Races, Record, Recheck, Hush, Explain}
 use Rattle.core_model.specs.Kept.{Replayed}
 use Rattle.ir_ast.specs.Programs.{function_instructions}
 use Rattle.ir_ast.specs.declared.hosts.HostTable.{HostTable}
@@ -27,17 +27,19 @@ use Rattle.race_check.specs.declared.race.Race.{Race}
 use Rattle.explain.specs.Explanations.{AreExplained}
 use Rattle.explain.specs.Text.{explain_text}
 use Rattle.explain.specs.declared.explained.Explained.{Explained}
+use Rattle.record_text.specs.Lines.{record_text}
 use Rattle.suppress.specs.Held.{held_text, held_status, is_any_shown}
 use Rattle.suppress.specs.declared.rules.Rules.{Rules}
 use Rattle.source_sem.specs.Records.{IsRightRecord}
-use Rattle.bsan.specs.Words.{Text, origin_of, input_in, rules_in, IsFrom}
+use Rattle.bsan.specs.Words.{Text, origin_of, input_in, rules_in, recheck_in, IsRecheck, IsFrom}
 use Rattle.bsan.specs.Seen.{FilesSeen, SinkSeen, Failed, IsFault}
-use Rattle.bsan.specs.Lines.{accepted_line, load_text}
+use Rattle.bsan.specs.Lines.{accepted_line, holds_line, load_text}
 use Rattle.bsan.specs.Rules.{AreRulesIn, IsRefusedAt, OfRead}
+use Rattle.bsan.specs.Rechecks.{TextFact, most_record_bytes, IsRightText, IsWrongText, IsFoundOf, OfReadRecord, IsRecordFault}
 use Rattle.bsan.specs.Answer.{OfFile, OfText, OfProgram, OfJob, HasProgram, FindsIn, IsEmptyOrRight, text_for, status_for}
 use Rattle.bsan.specs.declared.outcome.LineFault.{LineFault}
 use Rattle.bsan.specs.declared.outcome.Outcome.{Outcome}
-use Rattle.bsan.specs.declared.outcome.Outcome.TheVariants.{Accepted, Instrumented, Ran, Loaded, Hushed, Raced, Traced}
+use Rattle.bsan.specs.declared.outcome.Outcome.TheVariants.{Accepted, Instrumented, RecordHolds, Ran, Loaded, Recorded, Hushed, Raced, Traced}
 
 -- the text was not put whole, or memory ran out
 abbrev pub IsCutShort : ℕ → Type 0
@@ -120,13 +122,52 @@ pub record RulesCause (files : FilesSeen) (hosts : HostTable) (asked : Option Jo
   pub always : TellsJob files asked (TellsRefusedRules files hosts)
       → (answer ≡ 12) ⊎ ((answer ≡ 7) × AreRulesUnread files asked) ⊎ ComesBetween files asked answer
 
--- the program is accepted, and the file with the rules, or that with the input, was not read
+-- the program is accepted, and P holds of the record's text that was read, with the input that was read
+pub record ReadsRecord (P : TextFact) (files : FilesSeen) (hosts : HostTable) (job : Job) (program : Program) : Type 0 where
+  pub accepted : IsAccepted program hosts
+  pub holds : IsSomeAnd (recheck_in job) (λ check. OfReadRecord files check (λ input text. P program input hosts check.settings.limits text))
+
+-- the input that is told, or none where no file is named
+abbrev pub IsToldInput : FilesSeen → Option Text → List ℕ → Type 0
+IsToldInput files None input = input ≡ []
+IsToldInput files (Some file) input = files.content file ≡ Some input
+
+-- P holds of the input and of the record's text that are told
+abbrev pub OfToldRecord : FilesSeen → RecordCheck → (List ℕ → List ℕ → Type 0) → Type 0
+OfToldRecord files check P =
+    (input : List ℕ) × IsToldInput files check.settings.input input × (text : List ℕ) × (files.content check.record ≡ Some text) × P input text
+
+-- the program is accepted, and P holds of the record's text that is told, with the input that is told
+pub record TellsRecord (P : TextFact) (files : FilesSeen) (hosts : HostTable) (job : Job) (program : Program) : Type 0 where
+  pub accepted : IsAccepted program hosts
+  pub holds : IsSomeAnd (recheck_in job) (λ check. OfToldRecord files check (λ input text. P program input hosts check.settings.limits text))
+
+-- the file with the input, or that with the record, was not read
+abbrev pub IsRecordUnread : FilesSeen → Option Job → Type 0
+IsRecordUnread files asked =
+    IsSomeAnd asked (λ job. IsSomeAnd (input_in job) (λ file. IsFault files file) ⊎ IsSomeAnd (recheck_in job) (λ check. IsRecordFault files check))
+
+-- 7, since one of these was not read, or what comes between of every command
+abbrev pub ComesBeforeCheck : FilesSeen → Option Job → ℕ → Type 0
+ComesBeforeCheck files asked answer = ((answer ≡ 7) × IsRecordUnread files asked) ⊎ ComesBetween files asked answer
+
+-- 11: exactly where the program is accepted and the record's text is not that of a right record, unless a file was not read;
+-- 0 of a check of a record: exactly where it is that of one. A check leaves no record.
+pub record RecordCause (files : FilesSeen) (hosts : HostTable) (asked : Option Job) (kept : RunRecord) (answer : ℕ) : Type 0 where
+  pub only : answer ≡ 11 → OfJob files asked (ReadsRecord IsWrongText files hosts)
+  pub always : TellsJob files asked (TellsRecord IsWrongText files hosts) → (answer ≡ 11) ⊎ ComesBeforeCheck files asked answer
+  pub holds_only : IsSomeAnd asked IsRecheck → answer ≡ 0 → OfJob files asked (ReadsRecord IsRightText files hosts)
+  pub holds_always : TellsJob files asked (TellsRecord IsRightText files hosts) → (answer ≡ 0) ⊎ ComesBeforeCheck files asked answer
+  pub leaves_none : IsSomeAnd asked IsRecheck → kept ≡ empty_record
+
+-- the program is accepted, and the file with the rules, that with the input, or that with the record, was not read
 pub record HasUnreadFile (files : FilesSeen) (hosts : HostTable) (job : Job) (program : Program) : Type 0 where
   pub accepted : IsAccepted program hosts
   pub unread : IsSomeAnd (rules_in job) (λ file. IsFault files file)
       ⊎ IsSomeAnd (input_in job) (λ file. IsFault files file)
+      ⊎ IsSomeAnd (recheck_in job) (λ check. IsRecordFault files check)
 
--- 7: only where the program's file was not read, or that of the rules or the input, whose program was accepted
+-- 7: only where the program's file was not read, or that of the rules, the input or the record, whose program was accepted
 abbrev pub ReadCause : FilesSeen → HostTable → Option Job → ℕ → Type 0
 ReadCause files hosts asked answer = answer ≡ 7
     → IsUnread files asked ⊎ OfJob files asked (HasUnreadFile files hosts)
@@ -135,10 +176,11 @@ ReadCause files hosts asked answer = answer ≡ 7
 abbrev pub PutCause : SinkSeen → ℕ → Type 0
 PutCause sink answer = answer ≡ 8 → Rose sink.faults_before sink.faults_after
 
--- what was found is told of a run: its report or the end of that, its races, or what led to its violations
+-- what was found is told of a run: its report or the end of that, its record, its races, or what led to its violations
 abbrev pub TellsRun : Outcome → Type 0
 TellsRun Ran = Unit {0}
 TellsRun (Loaded seed size) = Unit {0}
+TellsRun Recorded = Unit {0}
 TellsRun (Hushed rules) = Unit {0}
 TellsRun (Raced races) = Unit {0}
 TellsRun (Traced violations) = Unit {0}
@@ -165,6 +207,13 @@ pub record InstrumentedWhole (files : FilesSeen) (hosts : HostTable) (sink : Sin
   pub cause : OfJob files asked (FindsIn files hosts kept (Instrumented target))
   pub text : Appends sink.taken_before sink.taken_after (target_text target)
 
+-- a record that was found right, and this was put
+pub record RecheckedWhole (files : FilesSeen) (hosts : HostTable) (sink : SinkSeen) (asked : Option Job) (kept : RunRecord) : Type 0 where
+  pub steps : ℕ
+  pub threads : ℕ
+  pub cause : OfJob files asked (FindsIn files hosts kept (RecordHolds steps threads))
+  pub text : Appends sink.taken_before sink.taken_after (holds_line steps threads)
+
 -- an allocation has a violation
 abbrev pub has_violations : RunRecord → Bool
 has_violations kept = list_any has_violation kept.allocs
@@ -189,11 +238,11 @@ pub record RacedWhole (files : FilesSeen) (hosts : HostTable) (sink : SinkSeen) 
   pub text : Appends sink.taken_before sink.taken_after (race_text kept races)
 
 -- 0: only after a run that tells of no violation, of which the whole text was put, or where a program was accepted or its target code
--- made, and that was put; 1, 5 and 6: only after a run that tells of one, with a trap, or with a limit that was reached,
--- of which the whole text was put; 10: only after a run with data races, whose lines were put
+-- made, or a record found right, and that was put; 1, 5 and 6: only after a run that tells of one, with a trap, or with a limit that
+-- was reached, of which the whole text was put; 10: only after a run with data races, whose lines were put
 pub record RunCause (files : FilesSeen) (hosts : HostTable) (sink : SinkSeen) (asked : Option Job) (kept : RunRecord) (answer : ℕ) : Type 0 where
   pub clean : answer ≡ 0 → RanWith files hosts sink asked kept answer (λ found. not (tells_violation found kept))
-      ⊎ AcceptedWhole files hosts sink asked kept ⊎ InstrumentedWhole files hosts sink asked kept
+      ⊎ AcceptedWhole files hosts sink asked kept ⊎ InstrumentedWhole files hosts sink asked kept ⊎ RecheckedWhole files hosts sink asked kept
   pub violated : answer ≡ 1 → RanWith files hosts sink asked kept answer (λ found. tells_violation found kept)
   pub trapped : answer ≡ 5 → RanWith files hosts sink asked kept answer (λ found. any_end is_trap kept)
   pub limited : answer ≡ 6 → RanWith files hosts sink asked kept answer (λ found. any_end is_limit kept)
@@ -211,13 +260,17 @@ MemoryCause files hosts sink asked kept answer = answer ≡ 9
 
 -- a status without a run leaves no record
 abbrev pub LeavesNone : RunRecord → ℕ → Type 0
-LeavesNone kept answer = ((answer ≡ 2) ⊎ (answer ≡ 3) ⊎ (answer ≡ 4) ⊎ (answer ≡ 7) ⊎ (answer ≡ 12)) → kept ≡ empty_record
+LeavesNone kept answer = ((answer ≡ 2) ⊎ (answer ≡ 3) ⊎ (answer ≡ 4) ⊎ (answer ≡ 7) ⊎ (answer ≡ 11) ⊎ (answer ≡ 12)) → kept ≡ empty_record
 
--- the file's content is told and within its limit, and no read of it fails
-pub record IsGiven (files : FilesSeen) (file : Text) (bytes : List ℕ) : Type 0 where
+-- the file's content is told and within this limit, and no read of it fails
+pub record IsGivenWithin (limit : ℕ) (files : FilesSeen) (file : Text) (bytes : List ℕ) : Type 0 where
   pub content : files.content file ≡ Some bytes
-  pub within : length bytes ≤ most_bytes
+  pub within : length bytes ≤ limit
   pub no_fault : ¬ Failed files file
+
+-- within the limit of a program, an input and rules
+abbrev pub IsGiven : FilesSeen → Text → List ℕ → Type 0
+IsGiven files file bytes = IsGivenWithin most_bytes files file bytes
 
 -- the same of the file that a job has for its input; without one the input is empty
 abbrev pub IsGivenInput : FilesSeen → Option Text → List ℕ → Type 0
@@ -234,6 +287,10 @@ AreRulesGiven files program file = (text : List ℕ) × IsGiven files file text 
 abbrev pub HasRules : FilesSeen → Program → Job → Type 0
 HasRules files program job = IfSome (rules_in job) (λ file. AreRulesGiven files program file)
 
+-- the same of a file with a record
+abbrev pub HasRecord : FilesSeen → Job → Type 0
+HasRecord files job = IfSome (recheck_in job) (λ check. (text : List ℕ) × IsGivenWithin most_record_bytes files check.record text)
+
 -- this job is asked for, its files are told, its program is accepted, and neither they nor the sink fail
 pub record AllIsWell (files : FilesSeen) (hosts : HostTable) (sink : SinkSeen) (asked : Option Job) (job : Job) (program : Program) (input : List ℕ) : Type 0 where
   pub is : asked ≡ Some job
@@ -241,6 +298,7 @@ pub record AllIsWell (files : FilesSeen) (hosts : HostTable) (sink : SinkSeen) (
   pub accepted : IsAccepted program hosts
   pub has_input : HasInput files input job
   pub has_rules : HasRules files program job
+  pub has_record : HasRecord files job
   pub no_put_fault : ¬ Rose sink.faults_before sink.faults_after
 
 -- the run's status, with the whole report, and the record of the program's run with this input
@@ -260,6 +318,24 @@ pub record IsLoadTold (hosts : HostTable) (sink : SinkSeen) (kept : RunRecord) (
   pub right : IsRightRecord program [] hosts default_settings.limits kept
   pub status : answer ≡ status_of kept
   pub text : Appends sink.taken_before sink.taken_after (load_text run.seed run.size kept)
+
+-- the run's status, with the text of its record, and that a right one of the program with this input
+pub record IsWritten (hosts : HostTable) (sink : SinkSeen) (kept : RunRecord) (program : Program) (input : List ℕ) (settings : Settings) (answer : ℕ) : Type 0 where
+  pub right : IsRightRecord program input hosts settings.limits kept
+  pub status : answer ≡ status_of kept
+  pub text : Appends sink.taken_before sink.taken_after (record_text kept)
+
+-- Of the record's text, which is told: 0 with how many steps and threads it has, exactly where it is that of a right record; else
+-- 11 with its first wrong line, or with the first clause that is broken. No record is left.
+pub record IsRechecked (files : FilesSeen) (hosts : HostTable) (sink : SinkSeen) (kept : RunRecord) (program : Program) (input : List ℕ) (check : RecordCheck) (answer : ℕ) : Type 0 where
+  pub told : List ℕ
+  pub content : files.content check.record ≡ Some told
+  pub found : Outcome
+  pub is : IsFoundOf program input hosts check.settings.limits told found
+  pub exactly : (answer ≡ 0) ↔ IsRightText program input hosts check.settings.limits told
+  pub status : answer ≡ status_for found kept
+  pub text : Appends sink.taken_before sink.taken_after (text_for found kept)
+  pub none : kept ≡ empty_record
 
 -- the run's status by these rules, with the report without what they hold, and a right record of the program with this input
 pub record IsHushed (files : FilesSeen) (hosts : HostTable) (sink : SinkSeen) (kept : RunRecord) (program : Program) (input : List ℕ) (run : HeldRun) (answer : ℕ) : Type 0 where
@@ -303,6 +379,8 @@ IsServed files hosts sink kept program input answer (Replay run) = IsReported ho
 IsServed files hosts sink kept program input answer (Run run) = IsRunRight hosts sink kept program input run.settings answer
 IsServed files hosts sink kept program input answer (Load run) = IsLoadTold hosts sink kept program run answer
 IsServed files hosts sink kept program input answer (Races run) = IsChecked hosts sink kept program input run answer
+IsServed files hosts sink kept program input answer (Record run) = IsWritten hosts sink kept program input run.settings answer
+IsServed files hosts sink kept program input answer (Recheck check) = IsRechecked files hosts sink kept program input check answer
 IsServed files hosts sink kept program input answer (Hush run) = IsHushed files hosts sink kept program input run answer
 IsServed files hosts sink kept program input answer (Explain run) = IsExplained hosts sink kept program input run answer
 

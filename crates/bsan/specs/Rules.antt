@@ -1,5 +1,5 @@
 -- The file with rules of a call.
-use Rattle.std.specs.Prelude.{◌≡◌, ℕ, List}
+use Rattle.std.specs.Prelude.{ℕ, List}
 use Rattle.ir_ast.specs.declared.program.Program.{Program}
 use Rattle.ir_text.specs.Bytes.{most_bytes}
 use Rattle.suppress.specs.Files.{AreRules, IsFault, lines_of}

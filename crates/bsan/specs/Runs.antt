@@ -1,7 +1,7 @@
 -- The runs that a job asks for.
 use Rattle.std.specs.Prelude.{◌≡◌, ℕ, List, [], Option, Some, None}
 use Rattle.command_words.specs.Jobs.{Job, Settings, ScheduledRun, default_settings}
-use Rattle.command_words.specs.Jobs.Job.{Replay, Run, Load, Races, Hush, Explain}
+use Rattle.command_words.specs.Jobs.Job.{Replay, Run, Load, Races, Record, Hush, Explain}
 use Rattle.core_model.specs.Kept.{Replayed}
 use Rattle.history.specs.declared.record.RunRecord.{RunRecord}
 use Rattle.ir_ast.specs.declared.hosts.HostTable.{HostTable}
@@ -32,6 +32,7 @@ IsOfRun files hosts kept program (Replay run) = IsScheduledRun files hosts kept 
 IsOfRun files hosts kept program (Run run) = IsNativeRun files hosts kept program run.settings
 IsOfRun files hosts kept program (Load run) = IsNativeRun files hosts kept program default_settings
 IsOfRun files hosts kept program (Races run) = IsScheduledRun files hosts kept program run
+IsOfRun files hosts kept program (Record run) = IsNativeRun files hosts kept program run.settings
 IsOfRun files hosts kept program (Hush run) = IsNativeRun files hosts kept program run.settings
 IsOfRun files hosts kept program (Explain run) = IsScheduledRun files hosts kept program run
 IsOfRun files hosts kept program job = ⊥

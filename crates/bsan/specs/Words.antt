@@ -1,8 +1,8 @@
 -- The words of a command line, and the files that they name.
 use Rattle.std.specs.Prelude.{ℕ, ◌≤◌, List, Option, Some, None, IfSome}
 use Rattle.std.specs.Option.{option_and_then}
-use Rattle.command_words.specs.Jobs.{Job, LoadRun, settings_in}
-use Rattle.command_words.specs.Jobs.Job.{Check, Instrument, Replay, Run, Load, Races, Hush, Explain}
+use Rattle.command_words.specs.Jobs.{Job, LoadRun, RecordCheck, settings_in}
+use Rattle.command_words.specs.Jobs.Job.{Check, Instrument, Replay, Run, Load, Races, Record, Recheck, Hush, Explain}
 use Rattle.core_model.specs.Running.{AreLimits}
 
 -- a word, or a name of a file, as its bytes
@@ -21,6 +21,8 @@ origin_of (Replay run) = InFile run.file
 origin_of (Run run) = InFile run.file
 origin_of (Load run) = Generated run
 origin_of (Races run) = InFile run.file
+origin_of (Record run) = InFile run.file
+origin_of (Recheck check) = InFile check.file
 origin_of (Hush run) = InFile run.file
 origin_of (Explain run) = InFile run.file
 
@@ -37,6 +39,16 @@ input_in job = option_and_then (λ settings. settings.input) (settings_in job)
 abbrev pub rules_in : Job → Option Text
 rules_in (Hush run) = Some run.rules
 rules_in job = None
+
+-- the check of a record that the job is, where it is one
+abbrev pub recheck_in : Job → Option RecordCheck
+recheck_in (Recheck check) = Some check
+recheck_in job = None
+
+-- the job is a check of a record
+abbrev pub IsRecheck : Job → Type 0
+IsRecheck (Recheck check) = Unit {0}
+IsRecheck job = ⊥
 
 -- the limits of a run are in their ranges
 abbrev pub HasLimits : Job → Type 0

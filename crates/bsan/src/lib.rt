@@ -2,12 +2,12 @@
 //!
 //! It reads the words of a command line, the program's file and the program in its text, and verifies
 //! the program. Where that is asked for it reads its input and runs it into a record. It puts one text: the report of
-//! that record, the same without what rules hold back, the data races of its run, the steps that led to its violations,
-//! how large the program is, its target code, or why there is none.
+//! that record, the record itself, the report without what rules hold back, the data races of its run, the steps that led to its violations,
+//! how large the program is, its target code, whether the record in a file is right, or why there is none.
 //!
 //! `bsan_alone` serves the commands that need one native thread: `check`, `instrument`, `solo`, `replay`,
-//! `races` and `explain`.
-//! `bsan` serves `run`, `load` and `hush` besides, which have a native thread for each thread of the program.
+//! `races`, `recheck` and `explain`.
+//! `bsan` serves `run`, `load`, `record` and `hush` besides, which have a native thread for each thread of the program.
 #![tactic(auto)]
 
 mod generated;
@@ -17,6 +17,8 @@ mod lines;
 mod load;
 mod native;
 mod outcome;
+mod recheck;
+mod record;
 mod top;
 
 pub use laws::the_others_are_held;

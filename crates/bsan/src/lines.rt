@@ -1,4 +1,4 @@
-//! How refusals, faults and acceptance are told.
+//! How refusals, faults, acceptance and right records are told.
 ghost use Rattle.std.specs.Prelude.{◌≡◌, IfOk};
 ghost use Rattle.report.specs.Report.{IsReportable};
 ghost use Rattle.bsan.specs.Lines as lines;
@@ -7,14 +7,15 @@ use crate::outcome::{LineFault, Role};
 use bsan_ids::NoMemory;
 use ir_reader::ReadFault;
 use ir_rules::Rule;
+use record_file::Clause;
 use report::part;
 use run_record::RunRecord;
 use std::alloc::Global;
 
 /// How the program is used.
 pub(crate) const USAGE: &str =
-    "usage: bsan check FILE | instrument FILE | solo FILE | replay FILE SCHEDULE | run FILE | load SEED SIZE | races FILE SCHEDULE | hush FILE RULES | explain FILE SCHEDULE\n\
-options of solo, replay, run, races, hush and explain: --input FILE --steps N --turns N --allocs N\n";
+    "usage: bsan check FILE | instrument FILE | solo FILE | replay FILE SCHEDULE | run FILE | load SEED SIZE | races FILE SCHEDULE | record FILE | recheck FILE RECORD | hush FILE RULES | explain FILE SCHEDULE\n\
+options of solo, replay, run, races, record, recheck, hush and explain: --input FILE --steps N --turns N --allocs N\n";
 
 /// A file's role in a word.
 fn role_name(role: Role) -> &'static str
@@ -24,6 +25,7 @@ fn role_name(role: Role) -> &'static str
         Role::Program => "program",
         Role::Rules => "rules",
         Role::Input => "input",
+        Role::Record => "record",
     }
 }
 
@@ -97,6 +99,56 @@ pub(crate) fn rules_line(alloc: Global, fault: LineFault, line: u32) -> Result<V
 {
     let name = line_fault_name(fault);
     let text = format!(in alloc; "rules refused: {name} at line {line}\n")?;
+    Ok(Vec::from_slice(alloc, text.as_bytes())?)
+}
+
+/// The line of a text that is no record's: `record refused: line LINE`.
+///
+/// # Errors
+///
+/// `NoMemory`: out of memory.
+pub(crate) fn record_line(alloc: Global, line: u64) -> Result<Vec<u8>, NoMemory>
+    ensures { IfOk result (λ text. text.items ≡ lines.record_line line) }
+{
+    let text = format!(in alloc; "record refused: line {line}\n")?;
+    Ok(Vec::from_slice(alloc, text.as_bytes())?)
+}
+
+/// The letter of a clause.
+fn clause_name(clause: Clause) -> &'static str
+    ensures { result.now ≡ lines.clause_text clause }
+{
+    match clause {
+        Clause::A => "a",
+        Clause::B => "b",
+        Clause::C => "c",
+        Clause::D => "d",
+        Clause::F => "f",
+    }
+}
+
+/// The line of a record of which a clause is broken: `record refused: clause CLAUSE`.
+///
+/// # Errors
+///
+/// `NoMemory`: out of memory.
+pub(crate) fn clause_line(alloc: Global, clause: Clause) -> Result<Vec<u8>, NoMemory>
+    ensures { IfOk result (λ text. text.items ≡ lines.clause_line clause) }
+{
+    let name = clause_name(clause);
+    let text = format!(in alloc; "record refused: clause {name}\n")?;
+    Ok(Vec::from_slice(alloc, text.as_bytes())?)
+}
+
+/// The line of a right record: `record holds: steps N, threads T`.
+///
+/// # Errors
+///
+/// `NoMemory`: out of memory.
+pub(crate) fn holds_line(alloc: Global, steps: u128, threads: usize) -> Result<Vec<u8>, NoMemory>
+    ensures { IfOk result (λ text. text.items ≡ lines.holds_line steps threads) }
+{
+    let text = format!(in alloc; "record holds: steps {steps}, threads {threads}\n")?;
     Ok(Vec::from_slice(alloc, text.as_bytes())?)
 }
 

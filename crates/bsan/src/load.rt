@@ -57,6 +57,9 @@ pub(crate) fn read_input<S: Files>(
     ensures too_long { IsErrOf result FileFault.TooLong → IsSomeAnd (option_map (λ name. name.now) name.entry) (λ file. WasTooLong
         (seen_files (S.content files.old) (S.faults files.old) (S.faults files.new) (S.overlong files.old) (S.overlong files.new))
         file most_bytes) }
+    ensures content { (other : List ℕ) → S.content files.new other ≡ S.content files.old other }
+    ensures faults { (other : List ℕ) → S.faults files.old other ≤ S.faults files.new other }
+    ensures overlong { (other : List ℕ) (most : ℕ) → S.overlong files.old other most ≤ S.overlong files.new other most }
 {
     match name {
         Some(name) => read_file(files, name, input),

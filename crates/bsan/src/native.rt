@@ -11,7 +11,7 @@ ghost use Rattle.bsan.specs.Answer.{FindsIn, HasCause, Answers, IsAskedJob, IsLo
 ghost use Rattle.bsan.specs.Runs.{IsNativeRun};
 ghost use Rattle.bsan.specs.Seen.{seen_files, seen_sink, Failed, WasTooLong};
 ghost use Rattle.bsan.specs.Words.{HasLimits, HasSize, origin_of};
-ghost use Rattle.bsan.specs.Causes.{UsageCause, ReadCause, NotReadCause, NotVerifiedCause, RulesCause, PutCause, RunCause, MemoryCause};
+ghost use Rattle.bsan.specs.Causes.{UsageCause, ReadCause, NotReadCause, NotVerifiedCause, RulesCause, RecordCause, PutCause, RunCause, MemoryCause};
 ghost use Rattle.bsan.specs.Causes.{LeavesNone, IsComplete};
 
 use crate::generated::generate;
@@ -157,6 +157,7 @@ impl<'a, R: Threads + Wait + Sync, G: Gate + Sync> Native<'a, R, G> {
         match job {
             NativeJob::Run(asked) => self.serve_run(asked, verified, files, kept),
             NativeJob::Load(asked) => self.serve_load(asked, verified, files, kept),
+            NativeJob::Record(asked) => self.serve_record(asked, verified, files, kept),
             NativeJob::Hush(asked) => self.serve_hush(asked, verified, files, kept),
         }
     }
@@ -180,7 +181,9 @@ impl<'a, R: Threads + Wait + Sync, G: Gate + Sync> Native<'a, R, G> {
         ensures overlong { (other : List ℕ) (most : ℕ) → S.overlong files.old other most ≤ S.overlong files.new other most }
     {
         match job {
-            NativeJob::Run(asked) => { load(self.alloc, asked.file, files, self.hosts) }
+            NativeJob::Run(asked) | NativeJob::Record(asked) => {
+                load(self.alloc, asked.file, files, self.hosts)
+            }
             NativeJob::Load(asked) => Ok(Ok(generate(self.alloc, asked, self.hosts)?)),
             NativeJob::Hush(asked) => load(self.alloc, asked.file, files, self.hosts),
         }
@@ -277,8 +280,9 @@ fn answer<R: Threads + Wait + Sync, S: Files, K: Sink, G: Gate + Sync>(
 
 /// Serves `run FILE`, which runs the program of the file with a native thread for each thread that it starts, and puts
 /// the report of that run; `load SEED SIZE`, which runs the program that the number SEED gives so, whose four workers each
-/// make SIZE stores; `hush FILE RULES`, which runs a program as `run` does and puts its report without the violations that
-/// the rules of a file hold back; and all commands of [`bsan_alone`], which it calls for them. `run` and `hush` take the
+/// make SIZE stores; `record FILE`, which runs a program as `run` does and puts the text of its record; `hush FILE RULES`,
+/// which runs a program as `run` does and puts its report without the violations that
+/// the rules of a file hold back; and all commands of [`bsan_alone`], which it calls for them. `run`, `record` and `hush` take the
 /// same options. `load` takes none: its run has no input and the limits that they have without a value. After `load` the
 /// text of a run is the line `load SEED SIZE: ` with the summary of the report, and the line of its status. All of them may
 /// wait for their threads. The `gate` is told where they have come to.
@@ -302,7 +306,8 @@ fn answer<R: Threads + Wait + Sync, S: Files, K: Sink, G: Gate + Sync>(
 /// It claims this sentence where a run is made: memory may run out first. After a run `kept` is a right record, its
 /// erasure included, of the program that was read, with the input that was read and within the limits of the words; or of
 /// the program that SEED and SIZE give. After `run` the text that is put is the report of `kept`, whose violation lines are the
-/// first violations; after `hush` they are exactly those of them that the rules do not hold.
+/// first violations; after `record` it is the record's text; after `hush` the violation lines are exactly those of the first
+/// violations that the rules do not hold.
 pub fn bsan<R: Threads + Wait + Sync, S: Files, K: Sink, G: Gate + Sync>(
     rt: &R,
     alloc: Global,
@@ -320,7 +325,8 @@ pub fn bsan<R: Threads + Wait + Sync, S: Files, K: Sink, G: Gate + Sync>(
         (seen_sink (K.taken out.old) (K.taken out.new) (K.faults out.old) (K.faults out.new))
         (jobs.job_of (map string_bytes words.now)) kept.new result }
 
-    // 0: only after a run without violations, those aside that rules hold, or where a program was accepted or its target code made.
+    // 0: only after a run without violations, those aside that rules hold, or where a program was accepted or its target code
+    // made, or a record found right.
     // 1, 5, 6, 10: only after a run with violations, with a trap, with a limit, with a data race. The whole text was put.
     ensures run { RunCause
         (seen_files (S.content files.old) (S.faults files.old) (S.faults files.new) (S.overlong files.old) (S.overlong files.new))
@@ -346,8 +352,14 @@ pub fn bsan<R: Threads + Wait + Sync, S: Files, K: Sink, G: Gate + Sync>(
         (seen_files (S.content files.old) (S.faults files.old) (S.faults files.new) (S.overlong files.old) (S.overlong files.new))
         hosts.now.table (jobs.job_of (map string_bytes words.now)) result }
 
+    // 11: exactly where the program is accepted and the record's file is not the text of a right record, unless it or a file
+    // before was not read; after `recheck` 0: exactly where it is one. `recheck` leaves no record.
+    ensures record { RecordCause
+        (seen_files (S.content files.old) (S.faults files.old) (S.faults files.new) (S.overlong files.old) (S.overlong files.new))
+        hosts.now.table (jobs.job_of (map string_bytes words.now)) kept.new result }
+
     // 7: only where a read of the program's file failed or it was too long, or, where the program is accepted, the
-    // same of the rules' file or the input's.
+    // same of the rules' file, the input's or the record's.
     ensures read_fault { ReadCause
         (seen_files (S.content files.old) (S.faults files.old) (S.faults files.new) (S.overlong files.old) (S.overlong files.new))
         hosts.now.table (jobs.job_of (map string_bytes words.now)) result }
@@ -362,7 +374,7 @@ pub fn bsan<R: Threads + Wait + Sync, S: Files, K: Sink, G: Gate + Sync>(
         (seen_sink (K.taken out.old) (K.taken out.new) (K.faults out.old) (K.faults out.new))
         (jobs.job_of (map string_bytes words.now)) kept.new result }
 
-    // 2, 3, 4, 7 and 12 leave no record.
+    // 2, 3, 4, 7, 11 and 12 leave no record.
     ensures no_record { LeavesNone kept.new result }
 
     // Where all is well outside, only being out of memory can come between.

@@ -4,14 +4,16 @@ ghost use Rattle.bsan.specs.Answer as answer;
 
 use crate::hush::{hushed_status, hushed_text};
 use crate::lines::{
-    USAGE, accepted_line, fault_line, file_fault_line, load_text, rule_line, rules_line,
-    too_long_line,
+    USAGE, accepted_line, clause_line, fault_line, file_fault_line, holds_line, load_text,
+    record_line, rule_line, rules_line, too_long_line,
 };
 use bsan_ids::{ListOf, NoMemory};
 use explain::{Explained, explain_text};
 use ir_reader::ReadFault;
 use ir_rules::Rule;
 use race_check::{Race, race_status, race_text};
+use record_file::Clause;
+use record_text::write_record;
 use report::{status_of, text_of};
 use run_record::RunRecord;
 use std::alloc::Global;
@@ -24,6 +26,7 @@ pub enum Role {
     Program,
     Rules,
     Input,
+    Record,
 }
 
 /// Why a line of a file with rules is refused.
@@ -50,14 +53,22 @@ pub enum Outcome {
     NotVerified { rule: Rule, at: u32 },
     /// A line of the rules is refused, the first one.
     RulesRefused { fault: LineFault, line: u32 },
+    /// The text is no record's. This is its first wrong line.
+    NotRecord { line: u64 },
+    /// The text is a record's of which a clause is broken. This is the first one.
+    RecordBroken { clause: Clause },
     /// The program is accepted, and no run was asked for.
     Accepted { functions: u32, instructions: u32 },
     /// The program is accepted, and its target code was made.
     Instrumented { target: Target },
+    /// The text is a right record's, which has so many steps and threads.
+    RecordHolds { steps: u128, threads: usize },
     /// The program was run, and its record kept.
     Ran,
     /// The program that the seed and the size give was run, and its record kept.
     Loaded { seed: u32, size: u32 },
+    /// The program was run, and its record kept, which is to be written.
+    Recorded,
     /// The program was run, its record kept, and these rules hold back reports of it.
     Hushed { rules: Rules },
     /// The program was run, its record kept, and the data races of the run found.
@@ -81,15 +92,19 @@ pub fn status_for(alloc: Global, found: &Outcome, kept: &RunRecord) -> Result<u8
         Outcome::NotRead { .. } => Ok(3),
         Outcome::NotVerified { .. } => Ok(4),
         Outcome::RulesRefused { .. } => Ok(12),
+        Outcome::NotRecord { .. } | Outcome::RecordBroken { .. } => Ok(11),
         Outcome::Accepted { .. } | Outcome::Instrumented { .. } => Ok(0),
-        Outcome::Ran | Outcome::Loaded { .. } | Outcome::Traced { .. } => Ok(status_of(kept)),
+        Outcome::RecordHolds { .. } => Ok(0),
+        Outcome::Ran | Outcome::Loaded { .. } | Outcome::Recorded | Outcome::Traced { .. } => {
+            Ok(status_of(kept))
+        }
         Outcome::Hushed { rules } => hushed_status(alloc, rules, kept),
         Outcome::Raced { races } => Ok(race_status(kept, races.as_slice())),
     }
 }
 
-/// The text of what was found: a line or two, the target code, the report of the record or the end of that, the report
-/// without what rules hold back of it, the lines of its races, or those on what led to its violations.
+/// The text of what was found: a line or two, the target code, the report of the record or the end of that, the record
+/// itself, the report without what rules hold back of it, the lines of its races, or those on what led to its violations.
 ///
 /// # Errors
 ///
@@ -105,13 +120,17 @@ pub fn text_for(alloc: Global, found: &Outcome, kept: &RunRecord) -> Result<Vec<
         Outcome::NotRead { fault } => fault_line(alloc, *fault),
         Outcome::NotVerified { rule, at } => rule_line(alloc, *rule, *at),
         Outcome::RulesRefused { fault, line } => rules_line(alloc, *fault, *line),
+        Outcome::NotRecord { line } => record_line(alloc, *line),
+        Outcome::RecordBroken { clause } => clause_line(alloc, *clause),
         Outcome::Accepted {
             functions,
             instructions,
         } => accepted_line(alloc, *functions, *instructions),
         Outcome::Instrumented { target } => text(alloc, target),
+        Outcome::RecordHolds { steps, threads } => holds_line(alloc, *steps, *threads),
         Outcome::Ran => text_of(alloc, kept),
         Outcome::Loaded { seed, size } => load_text(alloc, *seed, *size, kept),
+        Outcome::Recorded => write_record(alloc, kept),
         Outcome::Hushed { rules } => hushed_text(alloc, rules, kept),
         Outcome::Raced { races } => race_text(alloc, kept, races.as_slice()),
         Outcome::Traced { violations } => explain_text(alloc, kept, violations.as_slice()),

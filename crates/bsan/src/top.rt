@@ -13,11 +13,12 @@ ghost use Rattle.bsan.specs.Seen.{seen_files, seen_sink, Failed, WasTooLong, Put
 ghost use Rattle.bsan.specs.Runs.{IsScheduledRun};
 ghost use Rattle.bsan.specs.Words.{origin_of, HasLimits};
 ghost use Rattle.bsan.specs.Words.Origin.{InFile};
-ghost use Rattle.bsan.specs.Causes.{UsageCause, ReadCause, NotReadCause, NotVerifiedCause, RulesCause, PutCause, RunCause, MemoryCause};
+ghost use Rattle.bsan.specs.Causes.{UsageCause, ReadCause, NotReadCause, NotVerifiedCause, RulesCause, RecordCause, PutCause, RunCause, MemoryCause};
 ghost use Rattle.bsan.specs.Causes.{LeavesNone, IsComplete};
 
 use crate::load::{load, read_input, unread_input};
 use crate::outcome::{Outcome, status_for, text_for};
+use crate::recheck::serve_recheck;
 use bsan_ids::{ListOf, NoMemory};
 use command_words::{Job, ScheduledRun, WordsFault, read_job};
 use core_model::{main_machine, replay};
@@ -241,8 +242,9 @@ fn serve<S: Files>(
         }),
         Job::Replay(asked) => serve_replay(alloc, asked, verified, files, hosts, kept),
         Job::Races(asked) => serve_races(alloc, asked, verified, files, hosts, kept),
+        Job::Recheck(asked) => serve_recheck(alloc, asked, verified, files, hosts),
         Job::Explain(asked) => serve_explain(alloc, asked, verified, files, hosts, kept),
-        Job::Run(_) | Job::Load(_) | Job::Hush(_) => unreachable!(),
+        Job::Run(_) | Job::Load(_) | Job::Record(_) | Job::Hush(_) => unreachable!(),
     }
 }
 
@@ -254,7 +256,8 @@ fn file_of<'w>(job: &Job<'w>) -> &'w str
     match job {
         Job::Check { file } | Job::Instrument { file } => file,
         Job::Replay(run) | Job::Races(run) | Job::Explain(run) => run.file,
-        Job::Run(_) | Job::Load(_) | Job::Hush(_) => unreachable!(),
+        Job::Recheck(check) => check.file,
+        Job::Run(_) | Job::Load(_) | Job::Record(_) | Job::Hush(_) => unreachable!(),
     }
 }
 
@@ -326,27 +329,30 @@ fn answer<S: Files, K: Sink>(
 /// functions and instructions it has, `instrument FILE`, which puts the text of its target code instead,
 /// `solo FILE`, which runs it on one native thread and puts the report of that run, `replay FILE SCHEDULE`,
 /// which first picks the threads of a schedule, `races FILE SCHEDULE`, which puts the first data race on each
-/// allocation in that run instead, and `explain FILE SCHEDULE`, which puts each first violation in it with the steps that
-/// led to it. `solo`, `replay`, `races` and `explain` take `--input FILE`, `--steps N`, `--turns N` and `--allocs N`. The
-/// program may call the functions of `hosts`.
+/// allocation in that run instead, `recheck FILE RECORD`, which puts whether the record in a file is right for the program, and
+/// `explain FILE SCHEDULE`, which puts each first violation in the run with the steps that
+/// led to it. `solo`, `replay`, `races`, `recheck` and `explain` take `--input FILE`, `--steps N`, `--turns N` and
+/// `--allocs N`. The program may call the functions of `hosts`.
 ///
-/// First of all it empties `kept`; a run fills it. It does its work in this order: the words, the program's file,
-/// reading, verifying, the input's file, the run. Each file may have up to 1,048,576 bytes. Then it puts
+/// First of all it empties `kept`; a run fills it, and `recheck` does not. It does its work in this order: the words, the
+/// program's file, reading, verifying, the input's file, the run, or in its place the record's file and its check. Each file
+/// may have up to 1,048,576 bytes, but that of a record up to 67,108,864. Then it puts
 /// the whole text in one piece. The answer is the status:
 ///
 /// | status | when | text |
 /// |---|---|---|
-/// | 0 | the program ran clean, or is accepted | the report, the races or the explanations, or `accepted: F functions, I instructions`, or the target code |
+/// | 0 | the program ran clean, or is accepted, or the record is right | the report, the races or the explanations, or `accepted: F functions, I instructions`, or the target code, or `record holds: steps N, threads T` |
 /// | 1 | the run had a violation, and no end of a higher rank | the report, the races, or the explanations |
 /// | 2 | the words are no command's, as `clap` reads them, or a value is out of its form or range | `usage:` with the commands, and `options of` with the options |
 /// | 3 | the text is refused | `not read: FAULT at PLACE` |
 /// | 4 | a rule is broken in the program | `not verified: RULE at PLACE` |
 /// | 5 | a thread trapped, and none reached a limit or found no memory | the report, the races, or the explanations |
 /// | 6 | a thread reached the limit of steps or of turns, and none found no memory | the report, the races, or the explanations |
-/// | 7 | a read of a file failed, or the file is too long | `read fault: program`, `too long: program`, or the same with `input` |
+/// | 7 | a read of a file failed, or the file is too long | `read fault: program`, `too long: program`, or the same with `input` or `record` |
 /// | 8 | the sink failed | a prefix of the text that was to be put |
 /// | 9 | out of memory | nothing, or the report, the races or the explanations of a run in which a thread found no memory |
 /// | 10 | races were asked for, there is one, and the status of the run itself is 0 or 1 | the races |
+/// | 11 | the record's file is no record's text, or a clause of what makes its record right is broken | `record refused: line L`, lines counted from 1, or `record refused: clause X`, X of a, b, c, d and f |
 ///
 /// The races are a line for each, the earlier of its two steps first, then `races N` and `status S`. The explanations are
 /// the line of each first violation and, with two blanks before each, lines on who made the node that it names and who last
@@ -363,6 +369,9 @@ fn answer<S: Files, K: Sink>(
 /// that is put is the report of `kept`, whose violation lines are the first violations. After `races` it has a line for
 /// an allocation exactly where two steps on it race in `kept`. After `explain` it has the first violations, each with its
 /// explanation by the allocation's log.
+///
+/// After `recheck` the answer is 0 exactly where the record's file is the text of a record that is right for the program, the
+/// input, the functions of the host and the limits, and 11 exactly where it is not, where all files are read: whoever wrote it.
 pub fn bsan_alone<S: Files, K: Sink>(
     alloc: Global,
     words: &[String],
@@ -378,7 +387,7 @@ pub fn bsan_alone<S: Files, K: Sink>(
         (seen_sink (K.taken out.old) (K.taken out.new) (K.faults out.old) (K.faults out.new))
         (on_one_thread (job_of (map string_bytes words.now))) kept.new result }
 
-    // 0: only after a run without violations, or where a program was accepted or its target code made.
+    // 0: only after a run without violations, or where a program was accepted or its target code made, or a record found right.
     // 1, 5, 6, 10: only after a run with violations, with a trap, with a limit, with a data race. The whole text was put.
     ensures run { RunCause
         (seen_files (S.content files.old) (S.faults files.old) (S.faults files.new) (S.overlong files.old) (S.overlong files.new))
@@ -404,8 +413,14 @@ pub fn bsan_alone<S: Files, K: Sink>(
         (seen_files (S.content files.old) (S.faults files.old) (S.faults files.new) (S.overlong files.old) (S.overlong files.new))
         hosts.now.table (on_one_thread (job_of (map string_bytes words.now))) result }
 
+    // 11: exactly where the program is accepted and the record's file is not the text of a right record, unless it or a file
+    // before was not read; after `recheck` 0: exactly where it is one. `recheck` leaves no record.
+    ensures record { RecordCause
+        (seen_files (S.content files.old) (S.faults files.old) (S.faults files.new) (S.overlong files.old) (S.overlong files.new))
+        hosts.now.table (on_one_thread (job_of (map string_bytes words.now))) kept.new result }
+
     // 7: only where a read of the program's file failed or it was too long, or, where the program is accepted, the
-    // same of the rules' file or the input's.
+    // same of the rules' file, the input's or the record's.
     ensures read_fault { ReadCause
         (seen_files (S.content files.old) (S.faults files.old) (S.faults files.new) (S.overlong files.old) (S.overlong files.new))
         hosts.now.table (on_one_thread (job_of (map string_bytes words.now))) result }
@@ -420,7 +435,7 @@ pub fn bsan_alone<S: Files, K: Sink>(
         (seen_sink (K.taken out.old) (K.taken out.new) (K.faults out.old) (K.faults out.new))
         (on_one_thread (job_of (map string_bytes words.now))) kept.new result }
 
-    // 2, 3, 4, 7 and 12 leave no record.
+    // 2, 3, 4, 7, 11 and 12 leave no record.
     ensures no_record { LeavesNone kept.new result }
 
     // Where all is well outside, only being out of memory can come between.

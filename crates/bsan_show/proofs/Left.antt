@@ -3,7 +3,7 @@ use Rattle.std.proofs.Common.{ℕ, Option, sym, subst, inl, inr}
 use Rattle.std.proofs.lemmas.List.Elements.{All-nil}
 use Rattle.std.specs.List.{IsDistinct}
 use Rattle.command_words.specs.Jobs.{Job, ScheduledRun, Settings, default_settings}
-use Rattle.command_words.specs.Jobs.Job.{Check, Instrument, Replay, Run, Load, Races, Hush, Explain}
+use Rattle.command_words.specs.Jobs.Job.{Check, Instrument, Replay, Run, Load, Races, Record, Recheck, Hush, Explain}
 use Rattle.explain.specs.Explanations.{AreHistories}
 use Rattle.history.specs.Records.{empty_record, HasDistinctStamps}
 use Rattle.history.specs.declared.record.RunRecord.{RunRecord}
@@ -47,6 +47,8 @@ of_run_noted files hosts kept program (Races run) of = scheduled_noted files hos
 of_run_noted files hosts kept program (Explain run) of = scheduled_noted files hosts kept program run of
 of_run_noted files hosts kept program (Run run) of = native_noted files hosts kept program run.settings of
 of_run_noted files hosts kept program (Load run) of = native_noted files hosts kept program default_settings of
+of_run_noted files hosts kept program (Record run) of = native_noted files hosts kept program run.settings of
+of_run_noted files hosts kept program (Recheck check) of = absurd of
 of_run_noted files hosts kept program (Hush run) of = native_noted files hosts kept program run.settings of
 
 left_noted : (files : FilesSeen) (hosts : HostTable) (asked : Option Job) (kept : RunRecord) → IsEmptyOrRight files hosts asked kept → CanBeNoted kept

@@ -2,7 +2,7 @@
 use Rattle.std.specs.Prelude.{◌≡◌, ℕ, Bool, List, [], Option, Some, None, MatchOption}
 use Rattle.std.specs.Option.{option_map, option_and_then}
 use Rattle.command_words.specs.Jobs.{Job}
-use Rattle.command_words.specs.Jobs.Job.{Check, Instrument, Replay, Run, Load, Races, Hush, Explain}
+use Rattle.command_words.specs.Jobs.Job.{Check, Instrument, Replay, Run, Load, Races, Record, Recheck, Hush, Explain}
 use Rattle.history.specs.Records.{empty_record, merged}
 use Rattle.history.specs.declared.record.RunRecord.{RunRecord}
 use Rattle.ir_ast.specs.declared.hosts.HostTable.{HostTable}
@@ -19,6 +19,8 @@ noted_file (Replay run) = Some run.file
 noted_file (Run run) = Some run.file
 noted_file (Load run) = None
 noted_file (Races run) = Some run.file
+noted_file (Record run) = Some run.file
+noted_file (Recheck check) = Some check.file
 noted_file (Hush run) = Some run.file
 noted_file (Explain run) = Some run.file
 

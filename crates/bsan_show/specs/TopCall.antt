@@ -5,7 +5,7 @@ use Rattle.history.specs.declared.record.RunRecord.{RunRecord}
 use Rattle.ir_ast.specs.declared.hosts.HostTable.{HostTable}
 use Rattle.bsan.specs.Seen.{FilesSeen, SinkSeen}
 use Rattle.bsan.specs.Answer.{Answers}
-use Rattle.bsan.specs.Causes.{RunCause, UsageCause, NotReadCause, NotVerifiedCause, RulesCause, ReadCause, PutCause, MemoryCause, LeavesNone, IsComplete}
+use Rattle.bsan.specs.Causes.{RunCause, UsageCause, NotReadCause, NotVerifiedCause, RulesCause, RecordCause, ReadCause, PutCause, MemoryCause, LeavesNone, IsComplete}
 
 pub record IsTopCall (files : FilesSeen) (hosts : HostTable) (sink : SinkSeen) (asked : Option Job) (kept : RunRecord) (answer : ℕ) : Type 0 where
   pub answers : Answers files hosts sink asked kept answer
@@ -14,6 +14,7 @@ pub record IsTopCall (files : FilesSeen) (hosts : HostTable) (sink : SinkSeen) (
   pub not_read : NotReadCause files asked answer
   pub not_verified : NotVerifiedCause files hosts asked answer
   pub rules : RulesCause files hosts asked answer
+  pub «record» : RecordCause files hosts asked kept answer
   pub read_fault : ReadCause files hosts asked answer
   pub put_fault : PutCause sink answer
   pub memory : MemoryCause files hosts sink asked kept answer

@@ -52,7 +52,8 @@ fn noted_file<'w>(job: &Job<'w>) -> Option<&'w str>
     match job {
         Job::Check { file } | Job::Instrument { file } => Some(file),
         Job::Replay(run) | Job::Races(run) | Job::Explain(run) => Some(run.file),
-        Job::Run(run) => Some(run.file),
+        Job::Run(run) | Job::Record(run) => Some(run.file),
+        Job::Recheck(check) => Some(check.file),
         Job::Hush(run) => Some(run.file),
         Job::Load(_) => None,
     }

@@ -16,6 +16,10 @@ mod limits;
 #[cfg(test)]
 mod races;
 #[cfg(test)]
+mod recheck;
+#[cfg(test)]
+mod record;
+#[cfg(test)]
 mod texts;
 #[cfg(test)]
 mod whole_runs;

@@ -125,7 +125,9 @@ fn one_native_thread_serves_all_but_runs(rt: HostRuntime) -> Result<(), Fail> {
     for (line, status, want) in [
         ("run p", 2, USAGE),
         ("load 1 1", 2, USAGE),
+        ("record p", 2, USAGE),
         ("hush p r", 2, USAGE),
+        ("recheck p r", 11, "record refused: line 1\n"),
         ("solo p", 0, HALVES_REPORT),
     ] {
         let answer = call(alone, alloc, line, &given, None)?;

@@ -40,6 +40,13 @@ fn told(alloc: Global, line: &str) -> Result<String, AllocError> {
         Ok(Job::Run(run)) => told_native(alloc, "run", &run),
         Ok(Job::Load(LoadRun { seed, size })) => format!(in alloc; "load {seed} {size}"),
         Ok(Job::Races(run)) => told_run(alloc, "races", &run),
+        Ok(Job::Record(run)) => told_native(alloc, "record", &run),
+        Ok(Job::Recheck(check)) => {
+            let file = check.file;
+            let kept = check.record;
+            let settings = told_settings(alloc, &check.settings)?;
+            format!(in alloc; "recheck {file} {kept} {settings}")
+        }
         Ok(Job::Hush(run)) => {
             let file = run.file;
             let rules = run.rules;
@@ -112,6 +119,16 @@ fn words_of_more_commands_are_read(rt: HostRuntime) -> Result<(), Fail> {
         (
             "races 3 --input=races --allocs 9 --turns=8 --steps 7 1023",
             "races 3 races 7 8 9 1 1023",
+        ),
+        ("record p", "record p none 1000000 10000000 65536"),
+        (
+            "record --steps=4 record --input i",
+            "record record i 4 10000000 65536",
+        ),
+        ("recheck p r", "recheck p r none 1000000 10000000 65536"),
+        (
+            "recheck p --turns=3 --input q recheck --steps 2",
+            "recheck p recheck q 2 3 65536",
         ),
         ("hush p r", "hush p r none 1000000 10000000 65536"),
         (
@@ -219,6 +236,12 @@ fn words_of_more_commands_are_refused(rt: HostRuntime) -> Result<(), Fail> {
         "races p 1,1024",
         "races p 1,",
         "race p 1",
+        "record",
+        "record p 0",
+        "record p --turns 0",
+        "recheck p",
+        "recheck p r 0",
+        "recheck p r --allocs 0",
         "hush p",
         "hush p r --steps",
         "hush p r 0",

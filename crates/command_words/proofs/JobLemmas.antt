@@ -6,8 +6,8 @@ use Rattle.std.specs.Cmp.Lexicographic.{bytes_decides}
 use Rattle.std.proofs.lemmas.Bool.{false_from_ne_true}
 use Rattle.clap.specs.Words.{App, Row, Text, Kinds, matches_of}
 use Rattle.clap.specs.Faults.{fault_of}
-use Rattle.command_words.specs.Jobs.{Job, unless_fault, said_by, file_by, solo_by, native_by, load_by, scheduled_by, hush_by, job_of}
-use Rattle.command_words.specs.Jobs.Job.{Check, Instrument, Replay, Run, Load, Races, Hush, Explain}
+use Rattle.command_words.specs.Jobs.{Job, unless_fault, said_by, file_by, solo_by, native_by, load_by, scheduled_by, recheck_by, hush_by, job_of}
+use Rattle.command_words.specs.Jobs.Job.{Check, Instrument, Replay, Run, Load, Races, Record, Recheck, Hush, Explain}
 use Rattle.command_words.specs.Commands.{Takes}
 
 unless_none : {A : Type 0} (kinds : Kinds) (answer : Option A) → kinds ≡ [] → unless_fault kinds answer ≡ answer
@@ -53,6 +53,8 @@ pub record IsUnnamed (name : Text) : Type 0 where
   pub not_run : name ≡ codes "run" → ⊥
   pub not_load : name ≡ codes "load" → ⊥
   pub not_races : name ≡ codes "races" → ⊥
+  pub not_record : name ≡ codes "record" → ⊥
+  pub not_recheck : name ≡ codes "recheck" → ⊥
   pub not_hush : name ≡ codes "hush" → ⊥
   pub not_explain : name ≡ codes "explain" → ⊥
 
@@ -66,8 +68,10 @@ unnamed name rest none =
     (next (bytes_eq name (codes "run")) (option_map Run (native_by (codes "run") (name ∷ rest))) _ (differs name (codes "run") none.not_run)
     (next (bytes_eq name (codes "load")) (option_map Load (load_by (name ∷ rest))) _ (differs name (codes "load") none.not_load)
     (next (bytes_eq name (codes "races")) (option_map Races (scheduled_by (codes "races") (name ∷ rest))) _ (differs name (codes "races") none.not_races)
+    (next (bytes_eq name (codes "record")) (option_map Record (native_by (codes "record") (name ∷ rest))) _ (differs name (codes "record") none.not_record)
+    (next (bytes_eq name (codes "recheck")) (option_map Recheck (recheck_by (name ∷ rest))) _ (differs name (codes "recheck") none.not_recheck)
     (next (bytes_eq name (codes "hush")) (option_map Hush (hush_by (name ∷ rest))) _ (differs name (codes "hush") none.not_hush)
-    (next (bytes_eq name (codes "explain")) (option_map Explain (scheduled_by (codes "explain") (name ∷ rest))) None (differs name (codes "explain") none.not_explain) refl))))))))
+    (next (bytes_eq name (codes "explain")) (option_map Explain (scheduled_by (codes "explain") (name ∷ rest))) None (differs name (codes "explain") none.not_explain) refl))))))))))
 
 pub no_command : {A : Type 0} (text : A → Text) (words : List A) (first : A) (name : Text) → (let o : Option A = Some first in o) ≡ slice_get words 0 → name ≡ text first
     → IsUnnamed name → job_of (map text words) ≡ None

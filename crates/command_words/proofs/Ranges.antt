@@ -7,8 +7,8 @@ use Rattle.std.proofs.lemmas.Bool.{leb-true}
 use Rattle.bsan_ids.specs.declared.numbers.Limits.{Limits}
 use Rattle.clap.specs.Words.{App, Row, Text, Kinds, matches_of, first_of}
 use Rattle.clap.specs.Faults.{fault_of}
-use Rattle.command_words.specs.Jobs.{Settings, ScheduledRun, NativeRun, LoadRun, HeldRun, FileAndWord, Job, default_settings, settings_in, limit_of, limits_of, settings_of, file_of, native, native_of, both, both_of, seed_of, size_of, generated, load_of, unless_fault, said_by, file_by, native_by, both_by, load_by, alone, solo_by, scheduled, scheduled_by, held, hush_by, job_of}
-use Rattle.command_words.specs.Jobs.Job.{Check, Instrument, Replay, Run, Load, Races, Hush, Explain}
+use Rattle.command_words.specs.Jobs.{Settings, ScheduledRun, NativeRun, LoadRun, HeldRun, RecordCheck, FileAndWord, Job, default_settings, settings_in, limit_of, limits_of, settings_of, file_of, native, native_of, both, both_of, seed_of, size_of, generated, load_of, unless_fault, said_by, file_by, native_by, both_by, load_by, alone, solo_by, scheduled, scheduled_by, rechecked, recheck_by, held, hush_by, job_of}
+use Rattle.command_words.specs.Jobs.Job.{Check, Instrument, Replay, Run, Load, Races, Record, Recheck, Hush, Explain}
 use Rattle.command_words.specs.Numbers.{has_digits, number_in}
 use Rattle.command_words.specs.Schedules.{schedule_of}
 use Rattle.command_words.specs.Commands.{run_app, word_app, load_app}
@@ -132,6 +132,11 @@ scheduled_within name words =
     of (λ (run : ScheduledRun). HasLimits run.settings) (scheduled asked) (schedule_of asked.word) (λ picks p.
     both_within name (codes "SCHEDULE") words asked is))
 
+recheck_within : (words : List Text) (check : RecordCheck) → recheck_by words ≡ Some check → HasLimits check.settings
+recheck_within words =
+    of (λ (check : RecordCheck). HasLimits check.settings) rechecked (both_by (codes "recheck") (codes "RECORD") words)
+    (λ asked is. both_within (codes "recheck") (codes "RECORD") words asked is)
+
 hush_within : (words : List Text) (run : HeldRun) → hush_by words ≡ Some run → HasLimits run.settings
 hush_within words =
     of (λ (run : HeldRun). HasLimits run.settings) held (both_by (codes "hush") (codes "RULES") words)
@@ -191,9 +196,11 @@ in_range (name ∷ rest) job is =
     (either (bytes_eq name (codes "run")) (of IsInRange Run (native_by (codes "run") words) (λ run r. (native_within (codes "run") words run r, tt)) job)
     (either (bytes_eq name (codes "load")) (of IsInRange Load (load_by words) (λ run r. (default_within, load_within words run r)) job)
     (either (bytes_eq name (codes "races")) (of IsInRange Races (scheduled_by (codes "races") words) (λ run r. (scheduled_within (codes "races") words run r, tt)) job)
+    (either (bytes_eq name (codes "record")) (of IsInRange Record (native_by (codes "record") words) (λ run r. (native_within (codes "record") words run r, tt)) job)
+    (either (bytes_eq name (codes "recheck")) (of IsInRange Recheck (recheck_by words) (λ check r. (recheck_within words check r, tt)) job)
     (either (bytes_eq name (codes "hush")) (of IsInRange Hush (hush_by words) (λ run r. (hush_within words run r, tt)) job)
     (either (bytes_eq name (codes "explain")) (of IsInRange Explain (scheduled_by (codes "explain") words) (λ run r. (scheduled_within (codes "explain") words run r, tt)) job)
-    (λ none. absurd cc))))))))) is
+    (λ none. absurd cc))))))))))) is
   where
     words : List Text
     words = name ∷ rest

@@ -40,6 +40,12 @@ pub record HeldRun : Type 0 where
   pub rules : Text
   pub settings : Settings
 
+-- a check of a record: the program's file, the file with the record, and what the options say
+pub record RecordCheck : Type 0 where
+  pub file : Text
+  pub «record» : Text
+  pub settings : Settings
+
 pub data Job : Type 0 where
   Check : (file : Text) → Job
   Instrument : (file : Text) → Job
@@ -47,6 +53,8 @@ pub data Job : Type 0 where
   Run : (run : NativeRun) → Job
   Load : (run : LoadRun) → Job
   Races : (run : ScheduledRun) → Job
+  Record : (run : NativeRun) → Job
+  Recheck : (check : RecordCheck) → Job
   Hush : (run : HeldRun) → Job
   Explain : (run : ScheduledRun) → Job
 
@@ -58,6 +66,8 @@ settings_in (Replay run) = Some run.settings
 settings_in (Run run) = Some run.settings
 settings_in (Load run) = Some default_settings
 settings_in (Races run) = Some run.settings
+settings_in (Record run) = Some run.settings
+settings_in (Recheck check) = Some check.settings
 settings_in (Hush run) = Some run.settings
 settings_in (Explain run) = Some run.settings
 
@@ -65,6 +75,7 @@ settings_in (Explain run) = Some run.settings
 abbrev pub native_in : Job → Option Job
 native_in (Run run) = Some (Run run)
 native_in (Load run) = Some (Load run)
+native_in (Record run) = Some (Record run)
 native_in (Hush run) = Some (Hush run)
 native_in job = None
 
@@ -169,6 +180,13 @@ abbrev pub scheduled_by : Text → List Text → Option ScheduledRun
 scheduled_by name words =
     option_and_then (λ asked. option_map (scheduled asked) (schedule_of asked.word)) (both_by name (codes "SCHEDULE") words)
 
+abbrev pub rechecked : FileAndWord → RecordCheck
+rechecked asked = record { file = asked.file; «record» = asked.word; settings = asked.settings }
+
+-- the check of the command `recheck FILE RECORD`
+abbrev pub recheck_by : List Text → Option RecordCheck
+recheck_by words = option_map rechecked (both_by (codes "recheck") (codes "RECORD") words)
+
 abbrev pub held : FileAndWord → HeldRun
 held asked = record { file = asked.file; rules = asked.word; settings = asked.settings }
 
@@ -187,6 +205,8 @@ job_of (name ∷ rest) =
     else (if bytes_eq name (codes "run") then option_map Run (native_by (codes "run") (name ∷ rest))
     else (if bytes_eq name (codes "load") then option_map Load (load_by (name ∷ rest))
     else (if bytes_eq name (codes "races") then option_map Races (scheduled_by (codes "races") (name ∷ rest))
+    else (if bytes_eq name (codes "record") then option_map Record (native_by (codes "record") (name ∷ rest))
+    else (if bytes_eq name (codes "recheck") then option_map Recheck (recheck_by (name ∷ rest))
     else (if bytes_eq name (codes "hush") then option_map Hush (hush_by (name ∷ rest))
     else (if bytes_eq name (codes "explain") then option_map Explain (scheduled_by (codes "explain") (name ∷ rest))
-    else None))))))))
+    else None))))))))))

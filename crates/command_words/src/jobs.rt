@@ -4,7 +4,7 @@ ghost use Rattle.std.specs.Option.{option_and_then, option_map};
 ghost use Rattle.clap.specs.Words.{first_of, found_of, rows_of};
 ghost use Rattle.command_words.specs.Jobs as jobs;
 ghost use Rattle.command_words.specs.Numbers as numbers;
-ghost use Rattle.command_words.specs.Meaning.{held_meant, job_meant, load_meant, native_meant, run_meant, settings_meant};
+ghost use Rattle.command_words.specs.Meaning.{held_meant, job_meant, load_meant, native_meant, recheck_meant, run_meant, settings_meant};
 
 use crate::WordsFault;
 use crate::commands::{file_command, load_command, matched, run_command, word_command};
@@ -90,6 +90,17 @@ pub struct HeldRun<'w> {
     pub settings: Settings<'w>,
 }
 
+/// A check of a record of a run.
+#[derive(Clone, Copy)]
+pub struct RecordCheck<'w> {
+    /// The file with the program.
+    pub file: &'w str,
+    /// The file with the record.
+    pub record: &'w str,
+    /// What the options say.
+    pub settings: Settings<'w>,
+}
+
 /// What a command line asks for.
 #[derive(Drop)]
 pub enum Job<'w> {
@@ -105,6 +116,10 @@ pub enum Job<'w> {
     Load(LoadRun),
     /// Run a program on one native thread, and tell the data races of the run.
     Races(ScheduledRun<'w>),
+    /// Run a program on native threads, and write the record of the run.
+    Record(NativeRun<'w>),
+    /// Tell whether a record is right for a program.
+    Recheck(RecordCheck<'w>),
     /// Run a program on native threads, and tell how the run went without the reports that rules hold back.
     Hush(HeldRun<'w>),
     /// Run a program on one native thread, and tell which steps led to the violations of the run.
@@ -118,6 +133,8 @@ pub enum NativeJob<'w> {
     Run(NativeRun<'w>),
     /// Tell how large the run of a generated program was.
     Load(LoadRun),
+    /// Write the record of the run.
+    Record(NativeRun<'w>),
     /// Tell how the run went without the reports that rules hold back.
     Hush(HeldRun<'w>),
 }
@@ -134,9 +151,10 @@ impl<'w> Job<'w> {
         match self {
             Job::Run(run) => Some(NativeJob::Run(*run)),
             Job::Load(run) => Some(NativeJob::Load(*run)),
+            Job::Record(run) => Some(NativeJob::Record(*run)),
             Job::Hush(run) => Some(NativeJob::Hush(*run)),
             Job::Check { .. } | Job::Instrument { .. } => None,
-            Job::Replay(_) | Job::Races(_) | Job::Explain(_) => None,
+            Job::Replay(_) | Job::Races(_) | Job::Recheck(_) | Job::Explain(_) => None,
         }
     }
 }
@@ -332,6 +350,19 @@ fn read_scheduled<'w>(
     })
 }
 
+/// The check that the words of the command `recheck` ask for.
+fn read_recheck<'w>(alloc: Global, words: &'w [String]) -> Result<RecordCheck<'w>, WordsFault>
+    ensures check { IfOk result (λ check. jobs.recheck_by (map string_bytes words.entry.now) ≡ Some (recheck_meant check)) }
+    ensures refused { IsErrOf result WordsFault.Refused → jobs.recheck_by (map string_bytes words.entry.now) ≡ None }
+{
+    let asked = read_both(alloc, "recheck", "RECORD", words)?;
+    Ok(RecordCheck {
+        file: asked.file,
+        record: asked.word,
+        settings: asked.settings,
+    })
+}
+
 /// The run that the words of the command `hush` ask for.
 fn read_hush<'w>(alloc: Global, words: &'w [String]) -> Result<HeldRun<'w>, WordsFault>
     ensures run { IfOk result (λ run. jobs.hush_by (map string_bytes words.entry.now) ≡ Some (held_meant run)) }
@@ -373,6 +404,8 @@ pub fn read_job<'w>(alloc: Global, words: &'w [String]) -> Result<Job<'w>, Words
         "run" => Ok(Job::Run(read_native(alloc, "run", words)?)),
         "load" => Ok(Job::Load(read_load(alloc, words)?)),
         "races" => Ok(Job::Races(read_scheduled(alloc, "races", words)?)),
+        "record" => Ok(Job::Record(read_native(alloc, "record", words)?)),
+        "recheck" => Ok(Job::Recheck(read_recheck(alloc, words)?)),
         "hush" => Ok(Job::Hush(read_hush(alloc, words)?)),
         "explain" => Ok(Job::Explain(read_scheduled(alloc, "explain", words)?)),
         _ => Err(WordsFault::Refused),

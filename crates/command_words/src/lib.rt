@@ -9,7 +9,9 @@ mod numbers;
 mod program_words;
 
 use bsan_ids::NoMemory;
-pub use jobs::{HeldRun, Job, LoadRun, NativeJob, NativeRun, ScheduledRun, Settings, read_job};
+pub use jobs::{
+    HeldRun, Job, LoadRun, NativeJob, NativeRun, RecordCheck, ScheduledRun, Settings, read_job,
+};
 pub use program_words::words_of;
 use std::alloc::AllocError;
 

@@ -3,7 +3,7 @@ use Rattle.std.specs.Global.{Vec}
 use Rattle.std.proofs.lemmas.Result.{IfOk-weaker}
 use Rattle.command_words.specs.Meaning.{job_meant}
 use Rattle.command_words.specs.declared.jobs.Job.{Job}
-use Rattle.command_words.specs.declared.jobs.Job.TheVariants.{Check, Instrument, Replay, Run, Load, Races, Hush, Explain}
+use Rattle.command_words.specs.declared.jobs.Job.TheVariants.{Check, Instrument, Replay, Run, Load, Races, Record, Recheck, Hush, Explain}
 use Rattle.command_words.specs.declared.jobs.HeldRun.{HeldRun}
 use Rattle.history.specs.declared.record.RunRecord.{RunRecord}
 use Rattle.ir_ast.specs.declared.hosts.HostTable.{HostTable}
@@ -21,6 +21,8 @@ on_others hosts kept notes (Replay run) source other are = are
 on_others hosts kept notes (Run run) source other are = are
 on_others hosts kept notes (Load run) source other are = are
 on_others hosts kept notes (Races run) source other are = are
+on_others hosts kept notes (Record run) source other are = are
+on_others hosts kept notes (Recheck check) source other are = are
 on_others hosts kept notes (Hush run) source other are = absurd (other run refl)
 on_others hosts kept notes (Explain run) source other are = are
 

@@ -12,6 +12,8 @@ returns-in_default-as_str-clause-refused c = λ err. no_command string_bytes c.a
       not_run = c.in_default-as_str.not-run;
       not_load = c.in_default-as_str.not-load;
       not_races = c.in_default-as_str.not-races;
+      not_record = c.in_default-as_str.not-record;
+      not_recheck = c.in_default-as_str.not-recheck;
       not_hush = c.in_default-as_str.not-hush;
       not_explain = c.in_default-as_str.not-explain;
     })
