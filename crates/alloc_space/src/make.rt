@@ -4,7 +4,7 @@ ghost use Rattle.alloc_space.specs.Steps.{IsMade};
 
 use crate::space::{Desk, Space};
 use crate::step::Stepped;
-use bsan_ids::{AllocNo, Stamp, ThreadNo};
+use bsan_ids::{AllocNo, Copied, NoMemory, Stamp, ThreadNo};
 use history::{Entry, Request};
 use ir_ast::Place;
 use outside_io::Gate;
@@ -22,6 +22,17 @@ pub enum Made {
     StepLimit(Stamp),
     /// Out of memory, before a stamp was drawn; an allocation number may have been drawn.
     NoMemory,
+}
+
+impl Copied for Made {
+    fn copy(&self) -> Result<Made, NoMemory> {
+        Ok(match self {
+            Made::Done(entry) => Made::Done(entry.copy()?),
+            Made::AllocLimit(drawn) => Made::AllocLimit(*drawn),
+            Made::StepLimit(stamp) => Made::StepLimit(*stamp),
+            Made::NoMemory => Made::NoMemory,
+        })
+    }
 }
 
 impl Space {

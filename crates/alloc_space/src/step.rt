@@ -6,7 +6,7 @@ ghost use Rattle.alloc_space.specs.Steps.{IsStepped, IsNoted, has_slot};
 
 use crate::space::{Desk, Space};
 use alloc_state::AllocState;
-use bsan_ids::{AllocNo, Stamp, ThreadNo};
+use bsan_ids::{AllocNo, Copied, NoMemory, Stamp, ThreadNo};
 use history::{Entry, Reply, Request};
 use outside_io::{Gate, Point};
 use std::sync::Wait;
@@ -20,6 +20,16 @@ pub enum Stepped {
     StepLimit(Stamp),
     /// Out of memory, before a stamp was drawn.
     NoMemory,
+}
+
+impl Copied for Stepped {
+    fn copy(&self) -> Result<Stepped, NoMemory> {
+        Ok(match self {
+            Stepped::Done(entry) => Stepped::Done(entry.copy()?),
+            Stepped::StepLimit(stamp) => Stepped::StepLimit(*stamp),
+            Stepped::NoMemory => Stepped::NoMemory,
+        })
+    }
 }
 
 impl Space {

@@ -1,5 +1,5 @@
 -- What the table asks of each step, from what a desk knows.
-use Rattle.std.proofs.Common.{eqb, eq-eqb, ne_eqb, Bool, Some, None, ◌-◌, ◌≡◌, ℕ, suc, ◌+◌, ◌%◌, ◌^◌, ◌<◌, ◌≤◌, true, List, [], ◌∷◌, length, set, sum_by, All, Contains, slice_index, get_or, Option, refl, sym, ap, ◌∙◌, subst, ⊎_elim, arith, mod-eq_of_lt}
+use Rattle.std.proofs.Common.{eqb, eq-eqb, ne_eqb, Bool, Some, None, ◌≡◌, ℕ, suc, ◌+◌, ◌%◌, ◌^◌, ◌<◌, ◌≤◌, true, List, [], ◌∷◌, length, set, sum_by, All, Contains, slice_index, get_or, Option, refl, sym, ap, ◌∙◌, subst, ⊎_elim, arith, mod-eq_of_lt}
 use mathlib.Core.Option.{some, none}
 use mathlib.Core.Logic.{dite}
 use native.Mathlib.Decide.{ℕ_discrete, dec_le}
@@ -12,10 +12,12 @@ use Rattle.std.proofs.lemmas.List.Elements.{All-head, All-tail}
 use Rattle.atomic_table.specs.Table.{State, Me, Splits, Act, step, keeps, takes, gives as gives_act, Valid, carried_after, put_back, rest, stepped, Allows}
 use Rattle.history.specs.declared.entry.Entry.{Entry}
 use Rattle.turn_lock.specs.declared.view.View.{View}
+use Rattle.turn_lock.specs.Places.{place, slot_at}
 use Rattle.turn_lock.specs.Weights.{above, sum_up_to, equals, drawn, alloc_weight, thread_weight}
 use Rattle.turn_lock.specs.Rule.{RuleHolds, Slot}
 use Rattle.turn_lock.specs.declared.view.HeldTurn.{HeldTurn}
 use Rattle.turn_lock.specs.Steps.{drew_stamp, drew_alloc, drew_thread, chose, split_left, split_right, took, gave}
+use Rattle.turn_lock.proofs.Places.{slot_of_place}
 use Rattle.turn_lock.proofs.Partings.{splits}
 use Rattle.turn_lock.specs.Plays.{StampDrawn, AllocDrawn, ThreadDrawn, NameChosen, TurnTaken, TakenAt, WaitMarked, TurnGiven, GivenAt, Extends, IsDesk, Carries}
 use Rattle.atomic_table.specs.Seated.{TableId}
@@ -120,12 +122,12 @@ module _ {X : Type 0} (number : X → ℕ) (entries : X → List Entry) where
       )
 
   pub allows_take : (slots id k word : ℕ) (me : Me (Option X) View) → 1 ≤ word → word ≤ 2 → me.0.live ≡ true → me.0.turn ≡ None → k < slots
-      → Allows Rule slots id me (k + 3) (λ n. either (eqb n 0) word n) (TurnTaken number entries (step slots (k + 3) 0 word none) me)
+      → Allows Rule slots id me (place k) (λ n. either (eqb n 0) word n) (TurnTaken number entries (step slots (place k) 0 word none) me)
   allows_take slots id k word me positive small live idle inside s kept count present _ =
-      let n : ℕ = slice_index s.words (k + 3) in
+      let n : ℕ = slice_index s.words (place k) in
       let here : k < length s.homes = omega arith in
-      let slot : k ≡ (k + 3) - 3 = omega arith in
-      let P : Bool → Type 0 = λ b. (w : View) × (a : Act (Option X)) × Valid s.homes me.1 a × Rule (stepped s (k + 3) (either b word n) id me.1 w a) × TakenAt number entries ((k + 3) - 3) me n (w, carried_after me.1 a) in
+      let slot : k ≡ slot_at (place k) = sym (slot_of_place k) in
+      let P : Bool → Type 0 = λ b. (w : View) × (a : Act (Option X)) × Valid s.homes me.1 a × Rule (stepped s (place k) (either b word n) id me.1 w a) × TakenAt number entries (slot_at (place k)) me n (w, carried_after me.1 a) in
       dite (ℕ_discrete n 0)
       (λ zero_is. let home = kept.home k here zero_is in
       subst P (sym (eq-eqb n 0 zero_is)) (
@@ -140,36 +142,36 @@ module _ {X : Type 0} (number : X → ℕ) (entries : X → List Entry) where
         me.0,
         keeps,
         tt,
-        misses s kept (k + 3) id me.0 present,
+        misses s kept (place k) id me.0 present,
         ((λ e. absurd (ne e)), (λ _. refl)),
       ))
 
-  pub allows_mark : (slots id k : ℕ) (me : Me (Option X) View) → k < slots → Allows Rule slots id me (k + 3) (λ n. either (eqb n 1) 2 n) (WaitMarked (step slots (k + 3) 1 2 none) me)
+  pub allows_mark : (slots id k : ℕ) (me : Me (Option X) View) → k < slots → Allows Rule slots id me (place k) (λ n. either (eqb n 1) 2 n) (WaitMarked (step slots (place k) 1 2 none) me)
   allows_mark slots id k me inside s kept count present _ =
-      let n : ℕ = slice_index s.words (k + 3) in
-      let P : ℕ → Type 0 = λ m. (w : View) × (a : Act (Option X)) × Valid s.homes me.1 a × Rule (stepped s (k + 3) m id me.1 w a) × WaitMarked (step slots (k + 3) 1 2 none) me n (w, carried_after me.1 a) in
+      let n : ℕ = slice_index s.words (place k) in
+      let P : ℕ → Type 0 = λ m. (w : View) × (a : Act (Option X)) × Valid s.homes me.1 a × Rule (stepped s (place k) m id me.1 w a) × WaitMarked (step slots (place k) 1 2 none) me n (w, carried_after me.1 a) in
       exchanged n 1 2 P
       (λ held. (
         me.0,
         keeps,
         tt,
-        subst (λ (views : List View). Rule record { words = set s.words (k + 3) 2; homes = s.homes; views = views }) (sym (set_again s.views id me.0 present)) (marks_turn s kept k (omega arith) held),
+        subst (λ (views : List View). Rule record { words = set s.words (place k) 2; homes = s.homes; views = views }) (sym (set_again s.views id me.0 present)) (marks_turn s kept k (omega arith) held),
         refl,
       ))
-      (λ _. (me.0, keeps, tt, misses s kept (k + 3) id me.0 present, refl))
+      (λ _. (me.0, keeps, tt, misses s kept (place k) id me.0 present, refl))
 
   pub allows_give : (slots id k : ℕ) (me : Me (Option X) View) (t : HeldTurn) (x : X) → me.0.live ≡ true → me.0.turn ≡ Some t → t.slot ≡ k → me.1 ≡ (k, Some x) ∷ [] → number x ≡ suc k → Extends me.0 t (entries x)
-      → Allows Rule slots id me (k + 3) (λ _. 0) (TurnGiven number entries (step slots (k + 3) 0 0 none) me)
+      → Allows Rule slots id me (place k) (λ _. 0) (TurnGiven number entries (step slots (place k) 0 0 none) me)
   allows_give slots id k me t x live held where_is carried numbered extends s kept count present _ =
-      let slot : k ≡ (k + 3) - 3 = omega arith in
+      let slot : k ≡ slot_at (place k) = sym (slot_of_place k) in
       let after : List (Slot X) = set s.homes k (some (Some x)) in
-      let rule : Rule record { words = set s.words (k + 3) 0; homes = after; views = set s.views id (gave me.0 (entries x)) } =
-      subst (λ j. Rule record { words = set s.words (j + 3) 0; homes = set s.homes j (some (Some x)); views = set s.views id (gave me.0 (entries x)) }) where_is
+      let rule : Rule record { words = set s.words (place k) 0; homes = after; views = set s.views id (gave me.0 (entries x)) } =
+      subst (λ j. Rule record { words = set s.words (place j) 0; homes = set s.homes j (some (Some x)); views = set s.views id (gave me.0 (entries x)) }) where_is
       (gives s kept id me.0 present live t held x (numbered ∙ ap suc (sym where_is)) extends) in (
         gave me.0 (entries x),
         gives_act,
         tt,
-        subst (λ c. Rule record { words = set s.words (k + 3) 0; homes = put_back s.homes c; views = set s.views id (gave me.0 (entries x)) }) (sym carried) rule,
+        subst (λ c. Rule record { words = set s.words (place k) 0; homes = put_back s.homes c; views = set s.views id (gave me.0 (entries x)) }) (sym carried) rule,
         subst (λ j. GivenAt number entries j me (gave me.0 (entries x), rest me.1)) slot
             (refl, λ y e. let same : Some x ≡ Some y = first_is x y me.1 carried e in ap (λ z. gave me.0 (entries z)) (some_is x y same)),
       )
@@ -180,12 +182,28 @@ module _ {X : Type 0} (number : X → ℕ) (entries : X → List Entry) where
 
   pub allows_give_back : (table : TableId) (slots id k n : ℕ) (before me : Me (Option X) View) (x : X) → me ≡ (before.0, (k, Some x) ∷ rest before.1) → IsDesk table before
       → ((t : HeldTurn) × (before.0.turn ≡ Some t) × (suc t.slot ≡ n) × Extends before.0 t (entries x)) → suc k ≡ n → number x ≡ n
-      → Allows Rule slots id me (k + 3) (λ _. 0) (TurnGiven number entries (step slots (k + 3) 0 0 none) me)
+      → Allows Rule slots id me (place k) (λ _. 0) (TurnGiven number entries (step slots (place k) 0 0 none) me)
   allows_give_back table slots id k n before me x exchanged_is desk turn slot numbered =
       let t : HeldTurn = turn.0 in
       let carry = subst (λ o. Carries table.slots o before.1) turn.1 desk.1 in
       let empty : rest before.1 ≡ [] = ap rest carry.0 in
       let same : t.slot ≡ k = let a = turn.2 in omega arith in
       let now : (before.0, (k, Some x) ∷ []) ≡ me = (λ i. (before.0, (k, Some x) ∷ sym empty i)) ∙ sym exchanged_is in
-      subst (λ (m : Me (Option X) View). Allows Rule slots id m (k + 3) (λ _. 0) (TurnGiven number entries (step slots (k + 3) 0 0 none) m)) now
+      subst (λ (m : Me (Option X) View). Allows Rule slots id m (place k) (λ _. 0) (TurnGiven number entries (step slots (place k) 0 0 none) m)) now
       (allows_give slots id k (before.0, (k, Some x) ∷ []) t x desk.0 turn.1 same refl (numbered ∙ sym slot) turn.3)
+
+  -- the same, where the word is named by another term
+
+  pub takes_at : (slots id k place_is word : ℕ) (me : Me (Option X) View) → place_is ≡ place k → 1 ≤ word → word ≤ 2 → me.0.live ≡ true → me.0.turn ≡ None → k < slots
+      → Allows Rule slots id me place_is (λ n. either (eqb n 0) word n) (TurnTaken number entries (step slots place_is 0 word none) me)
+  takes_at slots id k place_is word me same positive small live idle inside =
+      subst (λ w. Allows Rule slots id me w (λ n. either (eqb n 0) word n) (TurnTaken number entries (step slots w 0 word none) me)) (sym same) (allows_take slots id k word me positive small live idle inside)
+
+  pub marks_at : (slots id k place_is : ℕ) (me : Me (Option X) View) → place_is ≡ place k → k < slots → Allows Rule slots id me place_is (λ n. either (eqb n 1) 2 n) (WaitMarked (step slots place_is 1 2 none) me)
+  marks_at slots id k place_is me same inside = subst (λ w. Allows Rule slots id me w (λ n. either (eqb n 1) 2 n) (WaitMarked (step slots w 1 2 none) me)) (sym same) (allows_mark slots id k me inside)
+
+  pub gives_at : (table : TableId) (slots id k n place_is : ℕ) (before me : Me (Option X) View) (x : X) → place_is ≡ place k → me ≡ (before.0, (k, Some x) ∷ rest before.1) → IsDesk table before
+      → ((t : HeldTurn) × (before.0.turn ≡ Some t) × (suc t.slot ≡ n) × Extends before.0 t (entries x)) → suc k ≡ n → number x ≡ n
+      → Allows Rule slots id me place_is (λ _. 0) (TurnGiven number entries (step slots place_is 0 0 none) me)
+  gives_at table slots id k n place_is before me x same exchanged_is desk turn slot numbered =
+      subst (λ w. Allows Rule slots id me w (λ _. 0) (TurnGiven number entries (step slots w 0 0 none) me)) (sym same) (allows_give_back table slots id k n before me x exchanged_is desk turn slot numbered)

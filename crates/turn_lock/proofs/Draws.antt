@@ -9,9 +9,11 @@ use Rattle.atomic_table.specs.Table.{State}
 use Rattle.history.specs.declared.entry.Entry.{Entry}
 use Rattle.turn_lock.specs.declared.view.HeldTurn.{HeldTurn}
 use Rattle.turn_lock.specs.declared.view.View.{View}
+use Rattle.turn_lock.specs.Places.{place}
 use Rattle.turn_lock.specs.Weights.{sum_up_to, above, naming, equals, latest, stamp_weight, alloc_weight, thread_weight, name_weight, out_weight, call_weight, told_weight, turn_weight, holds_turn}
 use Rattle.turn_lock.specs.Rule.{RuleHolds, IsSpentOrLive, gone, there, IsConsistent, IsHolding, all_calls}
 use Rattle.turn_lock.specs.Steps.{since_turn, drew_stamp, drew_alloc, drew_thread, chose}
+use Rattle.turn_lock.proofs.Places.{past_counts}
 use Rattle.turn_lock.proofs.Sums.{moves_set}
 use Rattle.turn_lock.proofs.Numbers.{above_cases}
 use Rattle.turn_lock.proofs.Keeps.{keeps as keeps_rule, history_later, consistent_later, view_later, each_set, sum_same}
@@ -61,7 +63,7 @@ module _ {X : Type 0} {number : X → ℕ} {entries : X → List Entry} where
       → RuleHolds number entries record { words = set s.words i n; homes = s.homes; views = set s.views id w }
   counts s kept i n id v w low there_is live more longer stamps allocs threads names outs calls told turns fits =
       let words : List ℕ = set s.words i n in
-      let beyond : (k : ℕ) → slice_index words (k + 3) ≡ slice_index s.words (k + 3) = λ k. get_or-set_other s.words i (k + 3) n 0 (λ e. omega arith) in
+      let beyond : (k : ℕ) → slice_index words (place k) ≡ slice_index s.words (place k) = λ k. get_or-set_other s.words i (place k) n 0 (let p = past_counts k in λ e. omega arith) in
       let same : (h : Entry → ℕ) → all_calls s.views h ≡ all_calls (set s.views id w) h = λ h. sym (sum_same (call_weight h) s.views id v w there_is (calls h)) in
       keeps_rule s kept words s.homes (set s.views id w) (λ f. f v) (λ f. f w) (moves_set s.views id v w there_is)
       (length-set s.words i n) refl stamps allocs threads

@@ -16,9 +16,11 @@ use Rattle.history.specs.Merge.{stamp_of}
 use Rattle.history.specs.Histories.{is_make_step}
 use Rattle.history.specs.Restriction.{number_of}
 use Rattle.turn_lock.specs.Weights.{sum_up_to, naming, equals, makes, latest, alloc_weight, call_weight, told_weight, turn_weight, holds_turn}
+use Rattle.turn_lock.specs.Places.{place}
 use Rattle.turn_lock.specs.Rule.{RuleHolds, IsHome, Slot, IsSpentOrLive, gone, there, IsConsistent, IsHolding, IsSlotHistory, all_calls, spent}
 use Rattle.turn_lock.specs.Steps.{gave, beyond}
 use Rattle.turn_lock.specs.Plays.{Extends, IsFresh}
+use Rattle.turn_lock.proofs.Places.{past_counts, inside_table, place_once}
 use Rattle.turn_lock.proofs.Sums.{moves_set, sum_at, sum_two}
 use Rattle.turn_lock.proofs.Numbers.{equals_same, equals_other}
 use Rattle.turn_lock.proofs.Entries.{naming_here, naming_else, makes_else, makes_le, makes_none, rising_push, latest_push}
@@ -57,20 +59,20 @@ module _ {X : Type 0} {number : X → ℕ} {entries : X → List Entry} (s : Sta
       → ((n : ℕ) → sum_by (makes n) v.calls + sum_by (makes n) new ≤ alloc_weight (equals n) v)
       → (x : X) → number x ≡ suc t.slot → entries x ≡ t.taken ++ new → Rattle.turn_lock.specs.Rule.Rising (entries x) → latest (entries x) ≤ slice_index s.words 0
       → (w : View) → w ≡ record v { calls = v.calls ++ new; turn = None }
-      → RuleHolds number entries record { words = set s.words (t.slot + 3) 0; homes = set s.homes t.slot (some (Some x)); views = set s.views id w }
+      → RuleHolds number entries record { words = set s.words (place t.slot) 0; homes = set s.homes t.slot (some (Some x)); views = set s.views id w }
   gives_turn new away here made x numbered whole rising reached w w_is =
       let k : ℕ = t.slot in
       let after : View = record v { calls = v.calls ++ new; turn = None } in
-      let words : List ℕ = set s.words (k + 3) 0 in
+      let words : List ℕ = set s.words (place k) 0 in
       let views : List View = set s.views id after in
       let homes : List (Slot X) = set s.homes k (some (Some x)) in
       let wide = kept.wide in
       let inside = holding.inside in
-      let other : (j : ℕ) → j ≢ k + 3 → slice_index words j ≡ slice_index s.words j = λ j apart. get_or-set_other s.words (k + 3) j 0 0 apart in
-      let now : slice_index words (k + 3) ≡ 0 = get_or-set_same s.words (k + 3) 0 0 (omega arith) in
-      let zero_word : slice_index words 0 ≡ slice_index s.words 0 = other 0 (λ e. omega arith) in
-      let one_word : slice_index words 1 ≡ slice_index s.words 1 = other 1 (λ e. omega arith) in
-      let two_word : slice_index words 2 ≡ slice_index s.words 2 = other 2 (λ e. omega arith) in
+      let other : (j : ℕ) → j ≢ place k → slice_index words j ≡ slice_index s.words j = λ j apart. get_or-set_other s.words (place k) j 0 0 apart in
+      let now : slice_index words (place k) ≡ 0 = get_or-set_same s.words (place k) 0 0 (let p = inside_table k (length s.homes) inside in omega arith) in
+      let zero_word : slice_index words 0 ≡ slice_index s.words 0 = other 0 (let p = past_counts k in λ e. omega arith) in
+      let one_word : slice_index words 1 ≡ slice_index s.words 1 = other 1 (let p = past_counts k in λ e. omega arith) in
+      let two_word : slice_index words 2 ≡ slice_index s.words 2 = other 2 (let p = past_counts k in λ e. omega arith) in
       let moves = moves_set s.views id v after there_is in
       let grown : (h : Entry → ℕ) → all_calls views h ≡ all_calls s.views h + sum_by h new = λ h. let m = moves (call_weight h) in omega (arith, sum_by-append h v.calls new) in
       let same : (j : ℕ) → j ≢ k → (h : Entry → ℕ) → all_calls s.views (naming (suc j) h) ≡ all_calls views (naming (suc j) h) =
@@ -100,21 +102,21 @@ module _ {X : Type 0} {number : X → ℕ} {entries : X → List Entry} (s : Sta
       let full = kept.turns k inside in
       subst (λ (u : View). RuleHolds number entries record { words = words; homes = homes; views = set s.views id u }) (sym w_is)
       (keeps_rule s kept words homes views (λ f. f v) (λ f. f after) moves
-      (length-set s.words (k + 3) 0) (length-set s.homes k (some (Some x)))
+      (length-set s.words (place k) 0) (length-set s.homes k (some (Some x)))
       (λ h. let a = ap (sum_up_to h) zero_word in omega arith) (λ h. let a = ap (sum_up_to h) one_word in omega arith) (λ h. let a = ap (sum_up_to h) two_word in omega arith)
       (λ h. omega arith)
       (λ h zero_is. let a = grown h in let b = sum_same (told_weight h) s.views id v after there_is refl in let c = kept.told h (omega arith) in omega arith)
       (λ j lt. dite (ℕ_discrete j k)
-      (λ e. let b : slice_index words (j + 3) ≡ 0 = ap (λ i. slice_index words (i + 3)) e ∙ now in
-      let c : slice_index s.words (j + 3) ≡ slice_index s.words (k + 3) = ap (λ i. slice_index s.words (i + 3)) e in
+      (λ e. let b : slice_index words (place j) ≡ 0 = ap (λ i. slice_index words (place i)) e ∙ now in
+      let c : slice_index s.words (place j) ≡ slice_index s.words (place k) = ap (λ i. slice_index s.words (place i)) e in
       let d : turn_weight j v ≡ 1 = ap (λ i. turn_weight i v) e ∙ mine_is in
       let m = mine_is in omega (arith, sum_at (turn_weight k) s.views id v there_is))
-      (λ apart. let b = other (j + 3) (λ e. apart (omega arith)) in let d : turn_weight j v ≡ 0 = ap (holds_turn j) held ∙ equals_other j k (λ e. apart (sym e)) in omega arith))
-      (λ j lt. dite (ℕ_discrete j k) (λ e. let b : slice_index words (j + 3) ≡ 0 = ap (λ i. slice_index words (i + 3)) e ∙ now in omega arith)
-      (λ apart. let b = other (j + 3) (λ e. apart (omega arith)) in let c = kept.turn_words j lt in omega arith))
+      (λ apart. let b = other (place j) (λ e. apart (place_once j k e)) in let d : turn_weight j v ≡ 0 = ap (holds_turn j) held ∙ equals_other j k (λ e. apart (sym e)) in omega arith))
+      (λ j lt. dite (ℕ_discrete j k) (λ e. let b : slice_index words (place j) ≡ 0 = ap (λ i. slice_index words (place i)) e ∙ now in omega arith)
+      (λ apart. let b = other (place j) (λ e. apart (place_once j k e)) in let c = kept.turn_words j lt in omega arith))
       (λ j lt zero_is. dite (ℕ_discrete j k)
       (λ e. subst (IsHome number entries (slice_index words 0) (all_calls views) homes) (sym e) record { value = x; there = set_here s.homes k (some (Some x)) inside; numbered = numbered; history = history })
-      (λ apart. let b = other (j + 3) (λ e. apart (omega arith)) in let q = kept.home j lt (sym b ∙ zero_is) in
+      (λ apart. let b = other (place j) (λ e. apart (place_once j k e)) in let q = kept.home j lt (sym b ∙ zero_is) in
       record { value = q.value; there = set_else s.homes k j (some (Some x)) apart ∙ q.there; numbered = q.numbered; history = history_later (omega arith) (same j apart) q.history }))
       (each_set Known s.views id after
       (there live (consistent_later (omega arith) (omega arith) (λ q e h. absurd (no_turn q e)) mine))
@@ -130,7 +132,7 @@ module _ {X : Type 0} {number : X → ℕ} {entries : X → List Entry} (s : Sta
       by_kind same false no_make = let a = fits.made n in let b = makes_none n e no_make in omega arith
 
   pub gives : (x : X) → number x ≡ suc t.slot → Extends v t (entries x)
-      → RuleHolds number entries record { words = set s.words (t.slot + 3) 0; homes = set s.homes t.slot (some (Some x)); views = set s.views id (gave v (entries x)) }
+      → RuleHolds number entries record { words = set s.words (place t.slot) 0; homes = set s.homes t.slot (some (Some x)); views = set s.views id (gave v (entries x)) }
   gives x numbered extends = ⊎_elim
       (λ (same : entries x ≡ t.taken).
       let whole : entries x ≡ t.taken ++ [] = same ∙ sym (append-nil t.taken) in

@@ -7,6 +7,7 @@ use Rattle.atomic_table.proofs.Lists.{at_set}
 use Rattle.history.specs.declared.entry.Entry.{Entry}
 use Rattle.turn_lock.specs.declared.view.HeldTurn.{HeldTurn}
 use Rattle.turn_lock.specs.declared.view.View.{View}
+use Rattle.turn_lock.specs.Places.{place}
 use Rattle.turn_lock.specs.Weights.{sum_up_to, naming, stamp_weight, alloc_weight, thread_weight, name_weight, out_weight, call_weight, told_weight, turn_weight, holders}
 use Rattle.turn_lock.specs.Rule.{RuleHolds, IsHome, Slot, IsSpentOrLive, gone, there, IsConsistent, IsHolding, IsSlotHistory, all_calls}
 use Rattle.turn_lock.proofs.Sums.{Moves, sum_set}
@@ -60,9 +61,9 @@ module _ {X : Type 0} {number : X → ℕ} {entries : X → List Entry} where
       → ((h : ℕ → ℕ) → sum_up_to h (slice_index words 2) + lost (thread_weight h) ≡ sum_up_to h (slice_index s.words 2) + gained (thread_weight h))
       → ((h : ℕ → ℕ) → gained (name_weight h) + lost (out_weight h) ≡ lost (name_weight h) + gained (out_weight h))
       → ((h : Entry → ℕ) → sum_by (call_weight h) views ≡ 0 → sum_by (told_weight h) views ≡ 0)
-      → ((k : ℕ) → k < length s.homes → holders (slice_index words (k + 3)) + lost (turn_weight k) ≡ holders (slice_index s.words (k + 3)) + gained (turn_weight k))
-      → ((k : ℕ) → k < length s.homes → slice_index words (k + 3) ≤ 2)
-      → ((k : ℕ) → k < length s.homes → slice_index words (k + 3) ≡ 0 → IsHome number entries (slice_index words 0) (all_calls views) homes k)
+      → ((k : ℕ) → k < length s.homes → holders (slice_index words (place k)) + lost (turn_weight k) ≡ holders (slice_index s.words (place k)) + gained (turn_weight k))
+      → ((k : ℕ) → k < length s.homes → slice_index words (place k) ≤ 2)
+      → ((k : ℕ) → k < length s.homes → slice_index words (place k) ≡ 0 → IsHome number entries (slice_index words 0) (all_calls views) homes k)
       → ((j : ℕ) (u : View) → get_elem? views j ≡ some u → IsSpentOrLive (length s.homes) (slice_index words 0) (slice_index words 2) (all_calls views) u)
       → RuleHolds number entries record { words = words; homes = homes; views = views }
   keeps s kept words homes views lost gained moves wide slots stamps allocs threads names told turns small home each = record {

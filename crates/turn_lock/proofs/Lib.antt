@@ -2,6 +2,7 @@ pub mod Sums
 pub mod Numbers
 pub mod Members
 pub mod Bounds
+pub mod Places
 pub mod Keeps
 pub mod Draws
 pub mod Partings

@@ -1,5 +1,5 @@
 -- The rule at the start.
-use Rattle.std.proofs.Common.{◌≡◌, ℕ, zero, suc, ◌+◌, ◌<◌, ◌≤◌, List, [], ◌∷◌, length, map, replicate, get_or, slice_get, slice_index, sum_by, Option, Some, None, refl, sym, ap, ◌∙◌, subst, arith, zero-le}
+use Rattle.std.proofs.Common.{◌≡◌, ℕ, zero, suc, ◌<◌, ◌≤◌, List, [], ◌∷◌, length, map, replicate, get_or, slice_get, slice_index, sum_by, Option, Some, None, refl, sym, ap, ◌∙◌, subst, arith, zero-le}
 use mathlib.Core.Option.{some, some-injective, some-ne-none}
 use lib.ListN.{get_elem?}
 use Rattle.std.proofs.lemmas.List.{length-replicate}
@@ -8,6 +8,7 @@ use Rattle.atomic_table.specs.Table.{opening}
 use Rattle.history.specs.declared.entry.Entry.{Entry}
 use Rattle.turn_lock.specs.declared.view.HeldTurn.{HeldTurn}
 use Rattle.turn_lock.specs.declared.view.View.{View}
+use Rattle.turn_lock.specs.Places.{place, width}
 use Rattle.turn_lock.specs.Weights.{sum_up_to, holders, latest}
 use Rattle.turn_lock.specs.Rule.{RuleHolds, IsSpentOrLive, there, Rising, all_calls, newcomer}
 use Rattle.turn_lock.specs.Closing.{AreBlank}
@@ -30,12 +31,12 @@ module _ {X : Type 0} (number : X → ℕ) (entries : X → List Entry) where
   at_home zero (v ∷ vs) lt = (v, refl, refl)
   at_home (suc k) (v ∷ vs) lt = at_home k vs (omega arith)
 
-  pub opens : (vs : List X) (words : List ℕ) (slots : List (Option X)) → words ≡ replicate (length vs + 3) 0 → slots ≡ map Some vs → AreBlank number entries vs
+  pub opens : (vs : List X) (words : List ℕ) (slots : List (Option X)) → words ≡ replicate (width (length vs)) 0 → slots ≡ map Some vs → AreBlank number entries vs
       → RuleHolds number entries (opening words slots (newcomer 0 0 []))
   opens vs words slots words_are slots_are blank =
-      let free : (k : ℕ) → slice_index words k ≡ 0 = λ k. ap (λ l. get_or l k 0) words_are ∙ zeros (length vs + 3) k in
+      let free : (k : ℕ) → slice_index words k ≡ 0 = λ k. ap (λ l. get_or l k 0) words_are ∙ zeros (width (length vs)) k in
       let many : length (map some slots) ≡ length vs = mapped some slots ∙ (ap length slots_are ∙ mapped Some vs) in
-      let wide : length words ≡ length vs + 3 = ap length words_are ∙ length-replicate (length vs + 3) 0 in
+      let wide : length words ≡ width (length vs) = ap length words_are ∙ length-replicate (width (length vs)) 0 in
       let start : (h : ℕ → ℕ) (k : ℕ) → 0 ≡ sum_up_to h (slice_index words k) = λ h k. sym (ap (sum_up_to h) (free k)) in
       let first : IsSpentOrLive (length (map some slots)) (slice_index words 0) (slice_index words 2) (all_calls (newcomer 0 0 [] ∷ [])) (newcomer 0 0 []) = there refl record {
         seen = zero-le;
@@ -58,8 +59,8 @@ module _ {X : Type 0} (number : X → ℕ) (entries : X → List Entry) where
         threads = λ h. start h 2;
         names = λ h. omega arith;
         told = λ h zero_is. refl;
-        turns = λ k lt. sym (ap holders (free (k + 3)));
-        turn_words = λ k lt. let a = free (k + 3) in omega arith;
+        turns = λ k lt. sym (ap holders (free (place k)));
+        turn_words = λ k lt. let a = free (place k) in omega arith;
         home = λ k lt zero_is.
             let a = at_home k vs (omega arith) in
             let b = blank k a.0 a.1 in record {

@@ -1,19 +1,21 @@
 -- What a desk has after its turn was taken and the value exchanged, and after a split.
-use Rattle.std.proofs.Common.{◌≡◌, ℕ, suc, ◌+◌, ◌-◌, List, [], ◌∷◌, ◌++◌, Contains, get_or, Option, Some, None, IfSome, IfNone, refl, sym, ap, ◌∙◌, subst, arith}
+use Rattle.std.proofs.Common.{◌≡◌, ℕ, suc, List, [], ◌∷◌, ◌++◌, Contains, get_or, Option, Some, None, IfSome, IfNone, refl, sym, ap, ◌∙◌, subst, arith}
 use Rattle.atomic_table.specs.Seated.{TableId}
 use Rattle.atomic_table.specs.Table.{Me, rest}
 use Rattle.history.specs.declared.entry.Entry.{Entry}
 use Rattle.turn_lock.specs.declared.view.View.{View}
+use Rattle.turn_lock.specs.Places.{place, slot_at}
 use Rattle.turn_lock.specs.Steps.{took, chose, split_left, parted, joins}
 use Rattle.turn_lock.specs.Plays.{DeskView, IsDesk, Tells, TakenAt, IsTaken}
+use Rattle.turn_lock.proofs.Places.{slot_of_place}
 use Rattle.turn_lock.proofs.Members.{once_more, once_less, none_left}
 
 module _ {X : Type 0} (number : X → ℕ) (entries : X → List Entry) where
   abbrev pub Found : ℕ → Me (Option X) View → Me (Option X) View → Type 0
   Found k m m' = (x : X) × (m' ≡ (took m.0 k (entries x), (k, Some x) ∷ m.1)) × (number x ≡ suc k) × Tells (suc k) m.0 (entries x)
 
-  pub found : (k : ℕ) (m m' : Me (Option X) View) (r : ℕ) → TakenAt number entries ((k + 3) - 3) m r m' → r ≡ 0 → Found k m m'
-  found k m m' r told zero_is = let same : (k + 3) - 3 ≡ k = omega arith in (subst (λ j. TakenAt number entries j m r m') same told).0 zero_is
+  pub found : (k place_is : ℕ) (m m' : Me (Option X) View) (r : ℕ) → place_is ≡ place k → TakenAt number entries (slot_at place_is) m r m' → r ≡ 0 → Found k m m'
+  found k place_is m m' r is told zero_is = let same : slot_at place_is ≡ k = ap slot_at is ∙ slot_of_place k in (subst (λ j. TakenAt number entries j m r m') same told).0 zero_is
 
   pub carried : (k : ℕ) (m m' : Me (Option X) View) → Found k m m' → (x : Option X) × (m'.1 ≡ (k, x) ∷ rest m'.1)
   carried k m m' f = (Some f.0, subst (λ (z : Me (Option X) View). z.1 ≡ (k, Some f.0) ∷ rest z.1) (sym f.1) refl)

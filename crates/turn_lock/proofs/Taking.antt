@@ -1,5 +1,5 @@
 -- A turn that is taken keeps the rule.
-use Rattle.std.proofs.Common.{◌≡◌, ℕ, zero, suc, ◌+◌, ◌<◌, ◌≤◌, ◌≢◌, ◌⊎◌, true, false, cond, eqb, max, List, [], ◌∷◌, ◌++◌, length, set, sum_by, All, slice_index, Option, Some, None, refl, sym, ap, ◌∙◌, subst, ⊎_elim, arith, le_trans, le_refl, zero-le, length-set, get_or-set_other, get_or-set_same}
+use Rattle.std.proofs.Common.{◌≡◌, ℕ, zero, suc, ◌<◌, ◌≤◌, ◌≢◌, ◌⊎◌, true, false, cond, eqb, max, List, [], ◌∷◌, ◌++◌, length, set, sum_by, All, slice_index, Option, Some, None, refl, sym, ap, ◌∙◌, subst, ⊎_elim, arith, le_trans, le_refl, zero-le, length-set, get_or-set_other, get_or-set_same}
 use mathlib.Core.Option.{some, none}
 use mathlib.Core.Logic.{dite}
 use native.Mathlib.Decide.{ℕ_discrete}
@@ -13,9 +13,11 @@ use Rattle.turn_lock.specs.declared.view.HeldTurn.{HeldTurn}
 use Rattle.turn_lock.specs.declared.view.View.{View}
 use Rattle.history.specs.Restriction.{number_of}
 use Rattle.turn_lock.specs.Weights.{sum_up_to, naming, equals, makes, alloc_weight, call_weight, told_weight, turn_weight, holds_turn}
+use Rattle.turn_lock.specs.Places.{place}
 use Rattle.turn_lock.specs.Rule.{RuleHolds, IsSpentOrLive, gone, there, IsConsistent, IsHolding, IsSlotHistory, all_calls}
 use Rattle.turn_lock.specs.Steps.{took, held_turn}
 use Rattle.turn_lock.specs.Plays.{Tells, IsFresh}
+use Rattle.turn_lock.proofs.Places.{past_counts, inside_table, place_once}
 use Rattle.turn_lock.proofs.Sums.{moves_set, sum_at, sum_two, sum_none, sum_each}
 use Rattle.turn_lock.proofs.Numbers.{sum_up_to_once, equals_same, equals_other}
 use Rattle.turn_lock.proofs.Entries.{naming_le}
@@ -59,17 +61,17 @@ module _ {X : Type 0} {number : X → ℕ} {entries : X → List Entry} (s : Sta
   }
 
   -- the word is then 1, or 2 where the desk has waited
-  pub takes_turn : (k word : ℕ) → 1 ≤ word → word ≤ 2 → k < length s.homes → slice_index s.words (k + 3) ≡ 0 → v.turn ≡ None → (x : X) → get_elem? s.homes k ≡ some (some (Some x)) → IsSlotHistory (slice_index s.words 0) (all_calls s.views) k (entries x)
-      → RuleHolds number entries record { words = set s.words (k + 3) word; homes = set s.homes k none; views = set s.views id (took v k (entries x)) }
+  pub takes_turn : (k word : ℕ) → 1 ≤ word → word ≤ 2 → k < length s.homes → slice_index s.words (place k) ≡ 0 → v.turn ≡ None → (x : X) → get_elem? s.homes k ≡ some (some (Some x)) → IsSlotHistory (slice_index s.words 0) (all_calls s.views) k (entries x)
+      → RuleHolds number entries record { words = set s.words (place k) word; homes = set s.homes k none; views = set s.views id (took v k (entries x)) }
   takes_turn k word positive small inside free idle x home history =
-      let words : List ℕ = set s.words (k + 3) word in
+      let words : List ℕ = set s.words (place k) word in
       let w : View = took v k (entries x) in
       let wide = kept.wide in
-      let other : (j : ℕ) → j ≢ k + 3 → slice_index words j ≡ slice_index s.words j = λ j apart. get_or-set_other s.words (k + 3) j word 0 apart in
-      let here : slice_index words (k + 3) ≡ word = get_or-set_same s.words (k + 3) word 0 (omega arith) in
-      let zero_word : slice_index words 0 ≡ slice_index s.words 0 = other 0 (λ e. omega arith) in
-      let one_word : slice_index words 1 ≡ slice_index s.words 1 = other 1 (λ e. omega arith) in
-      let two_word : slice_index words 2 ≡ slice_index s.words 2 = other 2 (λ e. omega arith) in
+      let other : (j : ℕ) → j ≢ place k → slice_index words j ≡ slice_index s.words j = λ j apart. get_or-set_other s.words (place k) j word 0 apart in
+      let here : slice_index words (place k) ≡ word = get_or-set_same s.words (place k) word 0 (let p = inside_table k (length s.homes) inside in omega arith) in
+      let zero_word : slice_index words 0 ≡ slice_index s.words 0 = other 0 (let p = past_counts k in λ e. omega arith) in
+      let one_word : slice_index words 1 ≡ slice_index s.words 1 = other 1 (let p = past_counts k in λ e. omega arith) in
+      let two_word : slice_index words 2 ≡ slice_index s.words 2 = other 2 (let p = past_counts k in λ e. omega arith) in
       let same : (h : Entry → ℕ) → all_calls s.views h ≡ all_calls (set s.views id w) h = λ h. sym (sum_same (call_weight h) s.views id v w there_is refl) in
       let held : (j : ℕ) → turn_weight j v ≡ 0 = λ j. ap (holds_turn j) idle in
       let Known : View → Type 0 = IsSpentOrLive (length s.homes) (slice_index words 0) (slice_index words 2) (all_calls (set s.views id w)) in
@@ -90,18 +92,18 @@ module _ {X : Type 0} {number : X → ℕ} {entries : X → List Entry} (s : Sta
         turn = λ t e. subst (IsHolding (length s.homes) (slice_index s.words 0) (all_calls s.views)) (some_hold (held_turn k (entries x)) t e) record { inside = inside; history = history; later = All-nil _; reached = All-nil _ };
       } in
       keeps_rule s kept words (set s.homes k none) (set s.views id w) (λ f. f v) (λ f. f w) (moves_set s.views id v w there_is)
-      (length-set s.words (k + 3) word) (length-set s.homes k none)
+      (length-set s.words (place k) word) (length-set s.homes k none)
       (λ h. let a = ap (sum_up_to h) zero_word in omega arith) (λ h. let a = ap (sum_up_to h) one_word in omega arith) (λ h. let a = ap (sum_up_to h) two_word in omega arith)
       (λ h. omega arith)
       (λ h zero_is. let a = same h in let b = sum_same (told_weight h) s.views id v w there_is refl in let c = kept.told h (omega arith) in omega arith)
       (λ j lt. let a = held j in dite (ℕ_discrete j k)
-      (λ e. let b : slice_index words (j + 3) ≡ word = ap (λ i. slice_index words (i + 3)) e ∙ here in let c : slice_index s.words (j + 3) ≡ 0 = ap (λ i. slice_index s.words (i + 3)) e ∙ free in
+      (λ e. let b : slice_index words (place j) ≡ word = ap (λ i. slice_index words (place i)) e ∙ here in let c : slice_index s.words (place j) ≡ 0 = ap (λ i. slice_index s.words (place i)) e ∙ free in
       let d : turn_weight j w ≡ 1 = ap (λ i. equals i k) e ∙ equals_same k in omega arith)
-      (λ apart. let b = other (j + 3) (λ e. apart (omega arith)) in let d : turn_weight j w ≡ 0 = equals_other j k (λ e. apart (sym e)) in omega arith))
-      (λ j lt. dite (ℕ_discrete j k) (λ e. let b : slice_index words (j + 3) ≡ word = ap (λ i. slice_index words (i + 3)) e ∙ here in omega arith)
-      (λ apart. let b = other (j + 3) (λ e. apart (omega arith)) in let c = kept.turn_words j lt in omega arith))
-      (λ j lt zero_is. dite (ℕ_discrete j k) (λ e. let b : slice_index words (j + 3) ≡ word = ap (λ i. slice_index words (i + 3)) e ∙ here in absurd (omega arith))
-      (λ apart. let b = other (j + 3) (λ e. apart (omega arith)) in let q = kept.home j lt (sym b ∙ zero_is) in
+      (λ apart. let b = other (place j) (λ e. apart (place_once j k e)) in let d : turn_weight j w ≡ 0 = equals_other j k (λ e. apart (sym e)) in omega arith))
+      (λ j lt. dite (ℕ_discrete j k) (λ e. let b : slice_index words (place j) ≡ word = ap (λ i. slice_index words (place i)) e ∙ here in omega arith)
+      (λ apart. let b = other (place j) (λ e. apart (place_once j k e)) in let c = kept.turn_words j lt in omega arith))
+      (λ j lt zero_is. dite (ℕ_discrete j k) (λ e. let b : slice_index words (place j) ≡ word = ap (λ i. slice_index words (place i)) e ∙ here in absurd (omega arith))
+      (λ apart. let b = other (place j) (λ e. apart (place_once j k e)) in let q = kept.home j lt (sym b ∙ zero_is) in
       record { value = q.value; there = set_else s.homes k j none apart ∙ q.there; numbered = q.numbered; history = history_later (omega arith) (λ h. same (naming (suc j) h)) q.history }))
       (each_set Known s.views id w
       (there live (consistent_later (omega arith) (omega arith) (λ t _ h. same (naming (suc t.slot) h)) mine))

@@ -1,11 +1,13 @@
 -- What the rule says of all desks at every moment, and what the weights of a history tell.
-use Rattle.std.specs.Prelude.{◌≡◌, ◌≢◌, ℕ, ◌+◌, ◌%◌, ◌^◌, ◌<◌, ◌≤◌, true, List, [], ◌∷◌, sum_by, slice_index}
+use Rattle.std.specs.Prelude.{◌≡◌, ◌≢◌, ℕ, ◌+◌, ◌%◌, ◌^◌, ◌<◌, ◌≤◌, true, List, [], ◌∷◌, length, sum_by, slice_index, Option}
+use Rattle.atomic_table.specs.Table.{State}
 use mathlib.Core.Option.{some}
 use lib.ListN.{get_elem?}
 use Rattle.history.specs.declared.entry.Entry.{Entry}
 use Rattle.turn_lock.specs.declared.view.View.{View}
 use Rattle.turn_lock.specs.Weights.{equals, stamp_weight, alloc_weight, thread_weight}
-use Rattle.turn_lock.specs.Rule.{Rising, newcomer}
+use Rattle.turn_lock.specs.Places.{place}
+use Rattle.turn_lock.specs.Rule.{Rising, newcomer, IsHome, all_calls}
 use Rattle.turn_lock.specs.Steps.{drew_stamp, took, gave}
 
 -- entries whose stamps rise are told by their weights
@@ -30,6 +32,10 @@ pub record NoDrawWraps (words : List ℕ) : Type 0 where
   pub allocs : slice_index words 1 ≤ 66560
   pub threads : slice_index words 2 ≤ 2047
   pub next : (k : ℕ) → k < 3 → (slice_index words k + 1) % 2 ^ 64 ≡ slice_index words k + 1
+
+-- where a turn is free, its slot holds the value of its number, whose entries rise by stamp and are exactly the calls of all desks on that number, each once
+abbrev pub FreeSlotsAreWhole : {X : Type 0} → (X → ℕ) → (X → List Entry) → State (Option X) View → Type 0
+FreeSlotsAreWhole number entries s = (k : ℕ) → k < length s.homes → slice_index s.words (place k) ≡ 0 → IsHome number entries (slice_index s.words 0) (all_calls s.views) s.homes k
 
 -- a desk that takes the turn of the slot 0 twice, and each time draws a stamp and makes a call
 abbrev pub called_twice : Entry → Entry → View

@@ -1,4 +1,5 @@
 pub mod Weights
+pub mod Places
 pub mod Rule
 pub mod Steps
 pub mod Plays

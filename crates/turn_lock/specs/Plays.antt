@@ -1,5 +1,5 @@
 -- What each step on the table tells the desk that makes it.
-use Rattle.std.specs.Prelude.{◌≡◌, ◌≢◌, ◌⊎◌, ℕ, suc, ◌-◌, ◌^◌, ◌<◌, ◌≤◌, true, ◌==◌, if◌then◌else◌, List, [], ◌∷◌, ◌++◌, All, Contains, sum_by, Option, Some, None}
+use Rattle.std.specs.Prelude.{◌≡◌, ◌≢◌, ◌⊎◌, ℕ, suc, ◌^◌, ◌<◌, ◌≤◌, true, ◌==◌, if◌then◌else◌, List, [], ◌∷◌, ◌++◌, All, Contains, sum_by, Option, Some, None}
 use Rattle.atomic_table.specs.Table.{Me, Step, rest}
 use Rattle.atomic_table.specs.Seated.{TableId}
 use Rattle.history.specs.declared.entry.Entry.{Entry}
@@ -8,6 +8,7 @@ use Rattle.turn_lock.specs.declared.view.View.{View}
 use Rattle.history.specs.Merge.{stamp_of}
 use Rattle.history.specs.Histories.{is_make_step}
 use Rattle.history.specs.Restriction.{number_of}
+use Rattle.turn_lock.specs.Places.{slot_at}
 use Rattle.turn_lock.specs.Weights.{AreOnce, naming, equals, makes, alloc_weight}
 use Rattle.turn_lock.specs.Rule.{Rising}
 use Rattle.turn_lock.specs.Steps.{drew_stamp, drew_alloc, drew_thread, chose, took, gave}
@@ -66,13 +67,13 @@ module _ {X : Type 0} (number : X → ℕ) (entries : X → List Entry) where
       × (r ≢ 0 → m' ≡ m)
 
   abbrev pub TurnTaken : Step (Option X) → Me (Option X) View → ℕ → Me (Option X) View → Type 0
-  TurnTaken st m r m' = TakenAt (st.word - 3) m r m'
+  TurnTaken st m r m' = TakenAt (slot_at st.word) m r m'
 
   abbrev pub GivenAt : ℕ → Me (Option X) View → Me (Option X) View → Type 0
   GivenAt k m m' = (m'.1 ≡ rest m.1) × ((x : X) → m.1 ≡ (k, Some x) ∷ rest m.1 → m'.0 ≡ gave m.0 (entries x))
 
   abbrev pub TurnGiven : Step (Option X) → Me (Option X) View → ℕ → Me (Option X) View → Type 0
-  TurnGiven st m r m' = GivenAt (st.word - 3) m m'
+  TurnGiven st m r m' = GivenAt (slot_at st.word) m m'
 
   -- the turn of the slot k was taken, and the value x out of it
   abbrev pub IsTaken : ℕ → Me (Option X) View → X → Me (Option X) View → Type 0

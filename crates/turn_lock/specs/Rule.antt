@@ -8,6 +8,7 @@ use Rattle.turn_lock.specs.declared.view.HeldTurn.{HeldTurn}
 use Rattle.turn_lock.specs.declared.view.Drawn.{Drawn}
 use Rattle.turn_lock.specs.declared.view.View.{View}
 use Rattle.history.specs.Merge.{stamp_of}
+use Rattle.turn_lock.specs.Places.{place, width}
 use Rattle.turn_lock.specs.Weights.{sum_up_to, above, naming, makes, equals, stamp_weight, alloc_weight, thread_weight, name_weight, out_weight, call_weight, told_weight, turn_weight, holders, latest}
 
 abbrev pub nothing : Drawn
@@ -106,17 +107,17 @@ module _ {X : Type 0} (number : X → ℕ) (entries : X → List Entry) where
     pub numbered : number value ≡ suc k
     pub history : IsSlotHistory clock calls k (entries value)
 
-  -- The rule. The words are the clock, the allocation word, the thread word, and from the fourth on the turns. All numbers up to a word stand in the views, each once. Each name but 0 of a desk that is there
+  -- The rule. The words are the clock, the allocation word, the thread word, and the turns, each at its place. All numbers up to a word stand in the views, each once. Each name but 0 of a desk that is there
   -- is out, once. What a desk was told of is a call of some desk. The word of a turn is 0 where it is free, 1 where one view holds it, and 2 where one view holds it and desks may wait for it.
   -- Where a turn is free, its value is at home with its whole history.
   pub record RuleHolds (s : State (Option X) View) : Type 0 where
-    pub wide : length s.words ≡ length s.homes + 3
+    pub wide : length s.words ≡ width (length s.homes)
     pub stamps : (h : ℕ → ℕ) → sum_by (stamp_weight h) s.views ≡ sum_up_to h (slice_index s.words 0)
     pub allocs : (h : ℕ → ℕ) → sum_by (alloc_weight h) s.views ≡ sum_up_to h (slice_index s.words 1)
     pub threads : (h : ℕ → ℕ) → sum_by (thread_weight h) s.views ≡ sum_up_to h (slice_index s.words 2)
     pub names : (h : ℕ → ℕ) → sum_by (name_weight h) s.views ≡ h 0 + sum_by (out_weight h) s.views
     pub told : (h : Entry → ℕ) → sum_by (call_weight h) s.views ≡ 0 → sum_by (told_weight h) s.views ≡ 0
-    pub turns : (k : ℕ) → k < length s.homes → sum_by (turn_weight k) s.views ≡ holders (slice_index s.words (k + 3))
-    pub turn_words : (k : ℕ) → k < length s.homes → slice_index s.words (k + 3) ≤ 2
-    pub home : (k : ℕ) → k < length s.homes → slice_index s.words (k + 3) ≡ 0 → IsHome (slice_index s.words 0) (all_calls s.views) s.homes k
+    pub turns : (k : ℕ) → k < length s.homes → sum_by (turn_weight k) s.views ≡ holders (slice_index s.words (place k))
+    pub turn_words : (k : ℕ) → k < length s.homes → slice_index s.words (place k) ≤ 2
+    pub home : (k : ℕ) → k < length s.homes → slice_index s.words (place k) ≡ 0 → IsHome (slice_index s.words 0) (all_calls s.views) s.homes k
     pub each : (id : ℕ) (v : View) → get_elem? s.views id ≡ some v → IsSpentOrLive (length s.homes) (slice_index s.words 0) (slice_index s.words 2) (all_calls s.views) v

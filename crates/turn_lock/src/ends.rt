@@ -1,11 +1,12 @@
 //! How a table begins and ends.
 ghost use Rattle.std.specs.Prelude.{◌≡◌, ℕ, suc, ◌+◌, ◌<◌, ◌≤◌, Some, None, length, map, replicate, IfOk, slice_get, vec_len, vec_capacity, slice_index_or, false, []};
 ghost use Rattle.std.specs.Mem.Slots.{slots_items, slots_filled, slots_len, IsFull};
+ghost use Rattle.turn_lock.specs.Places.{width};
 ghost use Rattle.turn_lock.specs.Rule.{newcomer};
 ghost use Rattle.turn_lock.specs.Closing.{AreCounts, IsWhole, AllSome, AreBlank};
 
 use crate::desk::Desk;
-use crate::turns::{GREATEST_ALLOC, Turns};
+use crate::turns::{GREATEST_ALLOC, Turns, width_of};
 use atomic_table::{Closed, Table};
 use bsan_ids::{Counters, NoMemory};
 use history::Logged;
@@ -30,10 +31,10 @@ fn take_values<T: Drop>(closed: &mut Closed<Option<T>, Global>, values: &mut Vec
 // The words at the start, and the values in their slots.
 fn lay_out<T: Drop>(alloc: Global, values: Vec<T>) -> Result<(Vec<u64>, Vec<Option<T>>), NoMemory>
     requires { vec_len values ≤ GREATEST_ALLOC }
-    ensures words { IfOk result (λ r. r.0.items ≡ replicate (length values.items + 3) 0) }
+    ensures words { IfOk result (λ r. r.0.items ≡ replicate (width (length values.items)) 0) }
     ensures slots { IfOk result (λ r. r.1.items ≡ map Some values.items) }
 {
-    let words = vec![in alloc; 0u64; values.len() + 3]?;
+    let words = vec![in alloc; 0u64; width_of(values.len())]?;
     let slots = values.into_iter().map(|x| Some(x)).collect(alloc)?;
     Ok((words, slots))
 }

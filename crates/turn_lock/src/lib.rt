@@ -9,7 +9,9 @@ mod turns;
 mod view;
 
 pub use desk::Desk;
-pub use laws::{desk_by_example, desks_differ, no_draw_wraps, weights_tell_histories};
+pub use laws::{
+    desk_by_example, desks_differ, free_slots_are_whole, no_draw_wraps, weights_tell_histories,
+};
 pub use rule::TurnRule;
 pub use turns::{GREATEST_ALLOC, GREATEST_STAMP, GREATEST_THREAD, Turns};
 pub use view::{Drawn, HeldTurn, View};

@@ -1,6 +1,7 @@
 //! The table of turns.
 ghost use Rattle.std.specs.Prelude.{◌≡◌, true, suc, ◌+◌, ◌-◌, ◌<◌, ◌≤◌, All, Contains, [], Some, None, IfSome, IfNone};
 ghost use Rattle.turn_lock.specs.declared.view.HeldTurn.{HeldTurn};
+ghost use Rattle.turn_lock.specs.Places.{place, width};
 ghost use Rattle.turn_lock.specs.Plays.{IsFresh, Extends, Tells, IsTaken};
 ghost use Rattle.turn_lock.specs.Steps.{drew_stamp, drew_alloc, drew_thread, parted, child_of, joins, took, gave};
 
@@ -13,6 +14,7 @@ use atomic_table::{Seat, Table};
 use bsan_ids::{AllocNo, Stamp, ThreadNo};
 use history::Logged;
 use std::alloc::Global;
+use std::hint::spin_loop;
 use std::marker::Model;
 use std::sync::Wait;
 
@@ -32,7 +34,27 @@ const ALLOCS: usize = 1;
 
 const THREADS: usize = 2;
 
-const FIRST_TURN: usize = 3;
+// The first words are a line of the cache, which the clock and the counts have for themselves. Then
+// come blocks of 512 words, in which the turns of 64 slots that follow one another stand in 64 lines.
+const LINE: usize = 8;
+
+const BLOCK: usize = 512;
+
+// The word of a slot's turn.
+fn place_of(slot: usize) -> usize
+    requires { slot < GREATEST_ALLOC }
+    ensures { result ≡ place slot }
+{
+    LINE + BLOCK * (slot / BLOCK) + LINE * (slot % (BLOCK / LINE)) + slot % BLOCK / (BLOCK / LINE)
+}
+
+// How many words a table of so many slots has.
+pub(crate) fn width_of(slots: usize) -> usize
+    requires { slots ≤ GREATEST_ALLOC }
+    ensures { result ≡ width slots }
+{
+    LINE + BLOCK * ((slots + (BLOCK - 1)) / BLOCK)
+}
 
 // The word of a turn. A desk that finds the turn held changes 1 to 2 and parks, which the system
 // lets it do only while the word is 2. A give exchanges the word for 0, and wakes one desk that
@@ -50,6 +72,10 @@ const HELD: u64 = 1;
 
 const WAITED: u64 = 2;
 
+// How many times a desk that finds a turn held looks whether it is free before it parks. Most turns
+// are held for less than that takes, and to park and be woken costs more.
+const LOOKS: u32 = 50;
+
 /// A clock, a count of allocation numbers, a count of thread numbers, and for each allocation
 /// number a turn and a slot with its value. A contract sees which table it is, with its number of
 /// slots.
@@ -60,12 +86,13 @@ pub struct Turns<T: Logged> {
 impl<T: Logged> Model for Turns<T> {
     ghost use Rattle.std.specs.Prelude.{◌≡◌, ◌+◌, ◌≤◌};
     ghost use Rattle.atomic_table.specs.Seated.{TableId};
+    ghost use Rattle.turn_lock.specs.Places.{width};
 
     ghost Value = { TableId };
 
     ghost view = { λ t. t.table.shared.table_id };
 
-    ghost invariant = { λ t. (t.table.shared.table_id.words ≡ t.table.shared.table_id.slots + 3) × (t.table.shared.table_id.slots ≤ 65536) };
+    ghost invariant = { λ t. (t.table.shared.table_id.words ≡ width t.table.shared.table_id.slots) × (t.table.shared.table_id.slots ≤ 65536) };
 }
 
 impl<T: Logged + Drop> Drop for Turns<T> {
@@ -77,7 +104,7 @@ impl<T: Logged + Drop> Drop for Turns<T> {
 
 impl<T: Logged> Turns<T> {
     pub(crate) fn of(table: Table<Option<T>, View, (), TurnRule<T>, Global>) -> Turns<T>
-        requires words { table.shared.table_id.words ≡ table.shared.table_id.slots + 3 }
+        requires words { table.shared.table_id.words ≡ width table.shared.table_id.slots }
         requires small { table.shared.table_id.slots ≤ GREATEST_ALLOC }
         ensures { result ≡ table.shared.table_id }
     {
@@ -86,7 +113,7 @@ impl<T: Logged> Turns<T> {
 
     pub(crate) fn into_table(self) -> Table<Option<T>, View, (), TurnRule<T>, Global>
         ensures table { result.shared.table_id ≡ self }
-        ensures words { result.shared.table_id.words ≡ result.shared.table_id.slots + 3 }
+        ensures words { result.shared.table_id.words ≡ width result.shared.table_id.slots }
     {
         let Self { table } = self;
         table
@@ -188,7 +215,7 @@ impl<T: Logged> Turns<T> {
         ensures none { IfNone result (seat.new.me ≡ seat.old.me) }
     {
         let shared = &self.table.shared;
-        if shared.compare_exchange::<TakeTurn>(seat, slot + FIRST_TURN, FREE, held) == FREE {
+        if shared.compare_exchange::<TakeTurn>(seat, place_of(slot), FREE, held) == FREE {
             shared.exchange(seat, slot, None)
         } else {
             None
@@ -203,9 +230,25 @@ impl<T: Logged> Turns<T> {
         ensures me { seat.new.me ≡ seat.old.me }
     {
         let shared = &self.table.shared;
-        if shared.compare_exchange::<MarkWaited>(seat, slot + FIRST_TURN, HELD, WAITED) != FREE {
-            shared.park(rt, slot + FIRST_TURN, WAITED as u32);
+        let word = place_of(slot);
+        if shared.compare_exchange::<MarkWaited>(seat, word, HELD, WAITED) != FREE {
+            shared.park(rt, word, WAITED as u32);
         }
+    }
+
+    // Whether the turn is found free within some looks.
+    fn comes_free(&self, slot: usize) -> bool
+        requires { slot < self.now.slots }
+    {
+        let shared = &self.table.shared;
+        let word = place_of(slot);
+        for _ in 0..LOOKS {
+            if shared.peek(word) == FREE {
+                return true;
+            }
+            spin_loop();
+        }
+        false
     }
 
     // Waits for the turn, and takes the value out of its slot.
@@ -221,8 +264,10 @@ impl<T: Logged> Turns<T> {
             if let Some(value) = self.try_acquire(seat, slot, held) {
                 return value;
             }
-            self.sleep(rt, seat, slot);
-            held = WAITED;
+            if !self.comes_free(slot) {
+                self.sleep(rt, seat, slot);
+                held = WAITED;
+            }
         }
         unreachable!()
     }
@@ -256,8 +301,9 @@ impl<T: Logged> Turns<T> {
         let slot = alloc.0 as usize - 1;
         let found = shared.exchange(&mut desk.seat, slot, Some(value));
         let None = found else { unreachable!() };
-        if shared.swap::<GiveTurn>(&mut desk.seat, slot + FIRST_TURN, FREE) == WAITED {
-            shared.wake_one(slot + FIRST_TURN);
+        let word = place_of(slot);
+        if shared.swap::<GiveTurn>(&mut desk.seat, word, FREE) == WAITED {
+            shared.wake_one(word);
         }
     }
 }

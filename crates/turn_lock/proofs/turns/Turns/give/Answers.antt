@@ -1,5 +1,5 @@
 use Rattle.std.proofs.Common.{rules, ◌≡◌, ◌-◌, suc, arith}
-use Rattle.turn_lock.proofs.Allowed.{allows_give_back}
+use Rattle.turn_lock.proofs.Allowed.{gives_at}
 use Rattle.turn_lock.proofs.turns.Turns.give.Goals as goal
 
 pub swap-requires : goal.swap-requires
@@ -9,6 +9,6 @@ swap-requires g c =
     let slot : suc (c.args.alloc.0 - 1) ≡ c.args.alloc.0 = omega arith in (
       search rules,
       search rules,
-      allows_give_back g.T.Logged.number g.T.Logged.entries c.desk.inside.seat.table_id _ _ (c.args.alloc.0 - 1) c.args.alloc.0 c.desk.inside.seat.me c.exchange-found.new.seat.me c.args.value
+      gives_at g.T.Logged.number g.T.Logged.entries c.desk.inside.seat.table_id _ _ (c.args.alloc.0 - 1) c.args.alloc.0 c.place_of-word.result c.desk.inside.seat.me c.exchange-found.new.seat.me c.args.value c.place_of-word.ensures
           (search rules) c.desk.invariant (search rules) slot (search rules),
     )
