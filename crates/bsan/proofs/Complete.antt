@@ -176,6 +176,21 @@ pub unread_by : (files : FilesSeen) (asked : Option Job) (P : Text → Type 0) �
 unread_by files asked P fault of =
     record { job = of.job; is = of.is; holds = of_origin P (λ file. IsFault files file) (origin_of of.job) fault of.holds }
 
+-- where nothing is asked for the usage is told
+pub asks_nothing : (files : FilesSeen) (hosts : HostTable) (sink : SinkSeen) (asked : Option Job) (kept : RunRecord) (answer : ℕ)
+    → Answers files hosts sink asked kept answer → asked ≡ None → (answer ≡ 2) ⊎ IsCutShort answer
+asks_nothing files hosts sink asked kept answer (inr out) none = inr (inr out.status)
+asks_nothing files hosts sink asked kept answer (inl told) none = by_found told.found told.cause told.puts
+  where
+    by_found : (found : Outcome) → HasCause files hosts asked kept found → Puts sink (text_for found kept) (status_for found kept) answer
+        → (answer ≡ 2) ⊎ IsCutShort answer
+    by_found Usage cause puts = put_answer sink _ 2 answer puts
+    by_found (FileFault role.Program) cause puts = absurd (let same : None ≡ Some cause.0.job = sym none ∙ cause.0.is in cc)
+    by_found (TooLong role.Program) cause puts = absurd (let same : None ≡ Some cause.0.job = sym none ∙ cause.0.is in cc)
+    by_found (NotRead read_fault) cause puts = absurd (let same : None ≡ Some cause.0.job = sym none ∙ cause.0.is in cc)
+    by_found (NotVerified rule at) cause puts = absurd (let same : None ≡ Some cause.0.job = sym none ∙ cause.0.is in cc)
+    by_found found cause puts = absurd (let same : None ≡ Some cause.job = sym none ∙ cause.is in cc)
+
 -- a content that is told and refused is told so
 pub refused : (files : FilesSeen) (hosts : HostTable) (sink : SinkSeen) (asked : Option Job) (kept : RunRecord) (answer : ℕ)
     → Answers files hosts sink asked kept answer → TellsText files asked IsRefused → (answer ≡ 3) ⊎ ComesBetween files asked answer

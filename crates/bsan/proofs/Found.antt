@@ -1,11 +1,14 @@
 -- What is found in a text that is no program's, in a file without a program, and in one with it.
-use Rattle.std.proofs.Common.{◌≡◌, ◌≢◌, ◌≤◌, List, ℕ, Option, Some, None, IfSome, Result, Ok, Err, MatchResult, refl, sym, ap, subst, ◌∙◌, arith}
+use Rattle.std.proofs.Common.{◌≡◌, ◌≢◌, ◌≤◌, List, ℕ, Option, Some, None, IfSome, IfOk, IsErrOf, Result, Ok, Err, MatchResult, refl, sym, ap, subst, ◌∙◌, arith}
 use Rattle.std.specs.Option.{option_map, IsSomeAnd}
 use Rattle.bsan_ids.specs.declared.numbers.Limits.{Limits}
 use Rattle.bsan_ids.specs.declared.numbers.NoMemory.{NoMemory}
 use Rattle.command_words.specs.Jobs.{Job, RecordCheck, Settings, ScheduledRun, default_settings, native_in, on_one_thread}
 use Rattle.command_words.specs.Jobs.Job.{Check, Instrument, Replay, Run, Load, Races, Record, Recheck, Hush, Explain}
-use Rattle.command_words.specs.Meaning.{native_job_meant}
+use Rattle.command_words.specs.Meaning.{job_meant, native_job_meant}
+use Rattle.command_words.specs.declared.WordsFault.{WordsFault}
+use Rattle.command_words.specs.declared.WordsFault.TheVariants as words
+use Rattle.command_words.specs.declared.jobs.Job.{Job as ReadJob}
 use Rattle.command_words.specs.declared.jobs.NativeJob.{NativeJob}
 use Rattle.ir_ast.specs.declared.hosts.HostTable.{HostTable}
 use Rattle.ir_ast.specs.declared.program.Program.{Program}
@@ -18,13 +21,13 @@ use Rattle.ir_reader.specs.declared.fault.ReadFault.{ReadFault}
 use Rattle.ir_reader.specs.declared.fault.ReadFault.TheVariants as read_fault
 use Rattle.history.specs.Records.{empty_record}
 use Rattle.history.specs.declared.record.RunRecord.{RunRecord}
-use Rattle.bsan.specs.Words.{Text, Origin, origin_of, input_in, rules_in, recheck_in, IsFrom, HasLimits, HasSize}
+use Rattle.bsan.specs.Words.{Text, Origin, origin_of, input_in, rules_in, recheck_in, IsFrom, IsReadOf}
 use Rattle.bsan.specs.Words.Origin.{InFile, Generated}
 use Rattle.bsan.specs.Seen.{FilesSeen, Failed, WasTooLong, WasRead}
 use Rattle.bsan.specs.Runs.{IsInput, IsScheduledRun, IsNativeRun}
 use Rattle.bsan.specs.Rules.{AreRulesIn, IsRefusedAt, OfRead}
 use Rattle.bsan.specs.Rechecks.{most_record_bytes, IsFoundOf, HasReadInput, OfReadRecord}
-use Rattle.bsan.specs.Answer.{OfJob, HasProgram, Serves, FindsIn, HasCause, IsAskedJob, IsNoProgram, IsLoaded, IsUnloaded}
+use Rattle.bsan.specs.Answer.{OfJob, HasProgram, Serves, FindsIn, HasCause, IsNoProgram, IsLoaded, IsUnloaded}
 use Rattle.suppress.specs.declared.rules.Rules.{Rules}
 use Rattle.bsan.specs.declared.outcome.Role.TheVariants as role
 use Rattle.bsan.specs.declared.outcome.Outcome.{Outcome}
@@ -338,7 +341,7 @@ pub not_alone : (asked : Option Job) (job native : Job) → asked ≡ Some job �
 not_alone asked job native is some = ap on_one_thread is ∙ (rw some refl)
 
 -- a job that is one for native threads
-native_is : (job native : Job) → native_in job ≡ Some native → job ≡ native
+pub native_is : (job native : Job) → native_in job ≡ Some native → job ≡ native
 native_is (Check file) native is = absurd cc
 native_is (Instrument file) native is = absurd cc
 native_is (Replay run) native is = absurd cc
@@ -350,9 +353,22 @@ native_is (Recheck check) native is = absurd cc
 native_is (Hush run) native is = cc
 native_is (Explain run) native is = absurd cc
 
-pub asked_job : (asked : Option Job) (job : Job) (native : Option NativeJob) → asked ≡ Some job → HasLimits job → HasSize (origin_of job)
-    → option_map native_job_meant native ≡ native_in job → IsAskedJob asked native
-asked_job asked job None is limits size none = alone asked job is (sym none) ∙ sym is
-asked_job asked job (Some native) is limits size some =
-    let same = native_is job (native_job_meant native) (sym some) in
-    (is ∙ ap (λ (j : Job). Some j) same, subst HasLimits same limits, subst (λ (j : Job). HasSize (origin_of j)) same size)
+-- what was read of the words, where they ask for this; and where a call can't serve it
+pub read_is : (asked : Option Job) (read : Result ReadJob WordsFault) → IfOk read (λ job. asked ≡ Some (job_meant job))
+    → (IsErrOf read words.Refused → asked ≡ None) → IsReadOf asked read
+read_is asked (Ok job) is none = is
+read_is asked (Err words.Refused) is none = none refl
+read_is asked (Err words.NoMemory) is none = tt
+
+-- what one native thread serves of it
+pub read_alone : (asked : Option Job) (fault : WordsFault) → IsReadOf asked (Err fault) → IsReadOf (on_one_thread asked) (Err fault)
+read_alone asked words.Refused none = ap on_one_thread none
+read_alone asked words.NoMemory none = tt
+
+pub native_read : (asked : Option Job) (read : Result ReadJob WordsFault) (job : ReadJob) (native : Option NativeJob) (one : NativeJob) → IsReadOf asked read
+    → read ≡ Ok job → option_map native_job_meant native ≡ native_in (job_meant job) → native ≡ Some one → asked ≡ Some (native_job_meant one)
+native_read asked read job native one of is same some =
+    let asks : asked ≡ Some (job_meant job) = subst (IsReadOf asked) is of in
+    let found : option_map native_job_meant (Some one) ≡ native_in (job_meant job) =
+    subst (λ (n : Option NativeJob). option_map native_job_meant n ≡ native_in (job_meant job)) some same in
+    asks ∙ ap (λ (j : Job). Some j) (native_is (job_meant job) (native_job_meant one) (sym found))

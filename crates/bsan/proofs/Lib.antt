@@ -7,3 +7,4 @@ pub mod Complete
 pub mod Status
 pub mod Hushing
 pub mod Rechecking
+pub mod TopCall

@@ -11,10 +11,10 @@ use Rattle.ir_rules.specs.Rules.{IsAccepted}
 use Rattle.report.specs.Report.{IsReportable}
 use Rattle.source_runs.proofs.Reporting.{right_records_are_reportable}
 use Rattle.explain.specs.Explanations.{AreHistories}
-use Rattle.bsan.specs.Seen.{FilesSeen}
+use Rattle.bsan.specs.Seen.{FilesSeen, SinkSeen}
 use Rattle.bsan.specs.Runs.{IsScheduledRun, IsNativeRun, IsOfRun}
 use Rattle.bsan.specs.Rechecks.{IsFoundOf}
-use Rattle.bsan.specs.Answer.{OfJob, Serves, FindsIn, HasCause, CanBeTold, IsEmptyOrRight}
+use Rattle.bsan.specs.Answer.{OfJob, Serves, FindsIn, HasCause, CanBeTold, IsTold, Answers, IsEmptyOrRight}
 use Rattle.bsan.proofs.Legal.{right_histories}
 use Rattle.bsan.specs.declared.outcome.Role.TheVariants as role
 use Rattle.bsan.specs.declared.outcome.Outcome.{Outcome}
@@ -130,3 +130,10 @@ left files hosts asked kept Recorded cause = of_served files hosts asked kept Re
 left files hosts asked kept (Hushed rules) cause = of_served files hosts asked kept (Hushed rules) cause cause.holds.0 cause.holds.1
 left files hosts asked kept (Raced races) cause = of_served files hosts asked kept (Raced races) cause cause.holds.0 cause.holds.1
 left files hosts asked kept (Traced violations) cause = of_served files hosts asked kept (Traced violations) cause cause.holds.0 cause.holds.1
+
+-- the text of what was found for its cause was put, or memory ran out before it
+pub told : (files : FilesSeen) (hosts : HostTable) (sink : SinkSeen) (asked : Option Job) (kept : RunRecord) (found : Outcome) (answer : ℕ)
+    → HasCause files hosts asked kept found → IsTold sink found kept answer → Answers files hosts sink asked kept answer
+told files hosts sink asked kept found answer cause (inl puts) = inl (record { found = found; cause = cause; puts = puts })
+told files hosts sink asked kept found answer cause (inr out) =
+    inr (record { status = out.0; nothing = out.1; record_kept = left files hosts asked kept found cause })

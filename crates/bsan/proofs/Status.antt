@@ -2,6 +2,7 @@
 use Rattle.std.proofs.Common.{zero, suc, ◌≡◌, ◌≢◌, ◌<◌, ◌≤◌, ◌==◌, ◌||◌, ◌⊎◌, ℕ, Bool, true, false, true≢false, not, List, length, Option, Some, None, if◌then◌else◌, nat_le, refl, sym, ap, subst, ◌∙◌, arith, inl, inr}
 use Rattle.std.specs.Option.{IsSomeAnd}
 use Rattle.std.specs.Io.KnownBytes.{Appends}
+use Rattle.outside_io.specs.Counts.{Rose}
 use Rattle.std.proofs.lemmas.Bool.{leb-true}
 use Rattle.command_words.specs.Jobs.{Job}
 use Rattle.ir_ast.specs.declared.hosts.HostTable.{HostTable}
@@ -18,7 +19,7 @@ use Rattle.bsan.specs.Seen.Puts.{whole, failed, no_memory}
 use Rattle.bsan.specs.Rules.{IsRefusedAt, OfRead}
 use Rattle.bsan.specs.Rechecks.{most_record_bytes, IsRightText, IsWrongText, HasReadInput, OfReadRecord, IsRecordFault}
 use Rattle.bsan.specs.Answer.{OfText, OfProgram, OfJob, Serves, FindsIn, HasCause, Answers, IsEmptyOrRight, text_for, status_for}
-use Rattle.bsan.specs.Causes.{IsCutShort, IsRefused, IsBrokenFirst, IsUnread, HasRefusedLine, HasRefusedRules, ReadsRecord, HasUnreadFile, ReadCause, TellsRun, RanWhole, RanWith, RacedWhole, AcceptedWhole, InstrumentedWhole, RecheckedWhole, RunCause, PutNothing, MemoryCause, LeavesNone, tells_violation}
+use Rattle.bsan.specs.Causes.{IsCutShort, IsRefused, IsBrokenFirst, IsUnread, HasRefusedLine, HasRefusedRules, ReadsRecord, HasUnreadFile, ReadCause, PutCause, TellsRun, RanWhole, RanWith, RacedWhole, AcceptedWhole, InstrumentedWhole, RecheckedWhole, RunCause, PutNothing, MemoryCause, LeavesNone, tells_violation}
 use Rattle.bsan.proofs.Found.{of_origin, of_check}
 use Rattle.bsan.proofs.FoundTexts.{IsOfText, IsFoundBy, wrong_at_11, right_at_0, of_text, of_recheck, not_of_run}
 use Rattle.bsan.proofs.Reportable.{left}
@@ -134,6 +135,59 @@ not_told found kept n tells is other unlike =
     let own = told_own found kept n tells is other in
     true≢false (sym (run_status_is found kept) ∙ ap is_run_status (sym own) ∙ unlike)
 
+-- ---- the statuses of each thing that can be found
+-- a status that a test holds of isn't one of which it doesn't hold
+other_than : (test : ℕ → Bool) (n k : ℕ) → n ≡ k → test k ≡ true → test n ≡ false → ⊥
+other_than test n k e holds fails = true≢false (sym holds ∙ ap test (sym e) ∙ fails)
+
+-- what was found may have this status: its own, that of a run, or with races 10
+abbrev pub may_have : Outcome → ℕ → Bool
+may_have Usage n = n == 2
+may_have (FileFault of) n = n == 7
+may_have (TooLong of) n = n == 7
+may_have (NotRead read_fault) n = n == 3
+may_have (NotVerified rule at) n = n == 4
+may_have (RulesRefused why line) n = n == 12
+may_have (NotRecord line) n = n == 11
+may_have (RecordBroken clause) n = n == 11
+may_have (Accepted functions instructions) n = n == 0
+may_have (Instrumented target) n = n == 0
+may_have (RecordHolds steps threads) n = n == 0
+may_have (Raced races) n = n == 10 || is_run_status n
+may_have found n = is_run_status n
+
+second_of : (first second : Bool) → (first || second) ≡ false → second ≡ false
+second_of true second neither = absurd (true≢false neither)
+second_of false second neither = neither
+
+-- and has no other
+pub unlike : (found : Outcome) (kept : RunRecord) (n : ℕ) → n ≡ status_for found kept → may_have found n ≡ false → ⊥
+unlike Usage kept n e not = other_than (λ m. m == 2) n 2 e refl not
+unlike (FileFault of) kept n e not = other_than (λ m. m == 7) n 7 e refl not
+unlike (TooLong of) kept n e not = other_than (λ m. m == 7) n 7 e refl not
+unlike (NotRead read_fault) kept n e not = other_than (λ m. m == 3) n 3 e refl not
+unlike (NotVerified rule at) kept n e not = other_than (λ m. m == 4) n 4 e refl not
+unlike (RulesRefused why line) kept n e not = other_than (λ m. m == 12) n 12 e refl not
+unlike (NotRecord line) kept n e not = other_than (λ m. m == 11) n 11 e refl not
+unlike (RecordBroken clause) kept n e not = other_than (λ m. m == 11) n 11 e refl not
+unlike (Accepted functions instructions) kept n e not = other_than (λ m. m == 0) n 0 e refl not
+unlike (Instrumented target) kept n e not = other_than (λ m. m == 0) n 0 e refl not
+unlike (RecordHolds steps threads) kept n e not = other_than (λ m. m == 0) n 0 e refl not
+unlike Ran kept n e not = other_than is_run_status n _ e (run_status_is Ran kept) not
+unlike (Loaded seed size) kept n e not = other_than is_run_status n _ e (run_status_is (Loaded seed size) kept) not
+unlike Recorded kept n e not = other_than is_run_status n _ e (run_status_is Recorded kept) not
+unlike (Hushed rules) kept n e not = other_than is_run_status n _ e (run_status_is (Hushed rules) kept) not
+unlike (Traced violations) kept n e not = other_than is_run_status n _ e (run_status_is (Traced violations) kept) not
+unlike (Raced races) kept n e not = elim (raced_as n (status_of kept) (length races) e) [
+  | inl own ↦ other_than is_run_status n _ own (run_status_is (Raced races) kept) (second_of (n == 10) (is_run_status n) not)
+  | inr ten ↦ other_than (λ m. m == 10 || is_run_status m) n 10 ten.ten refl not
+]
+
+-- none has 8
+never_8 : (found : Outcome) → may_have found 8 ≡ false
+never_8 Usage = refl
+never_8 found = refl
+
 -- one put that answers a status that is neither 8 nor 9 put the text of this status
 put_whole : (sink : SinkSeen) (text : List ℕ) (status answer n : ℕ) → Puts sink text status answer → answer ≡ n → (IsCutShort n → ⊥)
     → (n ≡ status) × Appends sink.taken_before sink.taken_after text
@@ -162,9 +216,6 @@ unread files hosts sink asked kept answer (inl told) is =
     by_found told.found told.cause (put_whole sink _ (status_for told.found kept) answer 3 told.puts is (uncut_low 3 (omega arith))).0
   where
     by_found : (found : Outcome) → HasCause files hosts asked kept found → 3 ≡ status_for found kept → OfText files asked IsRefused
-    by_found Usage cause e = absurd (omega (arith, e))
-    by_found (FileFault of) cause e = absurd (omega (arith, e))
-    by_found (TooLong of) cause e = absurd (omega (arith, e))
     by_found (NotRead read_fault) cause e = record {
       job = cause.0.job;
       is = cause.0.is;
@@ -172,19 +223,7 @@ unread files hosts sink asked kept answer (inl told) is =
       read = cause.0.read;
       holds = (read_fault, cause.0.holds);
     }
-    by_found (NotVerified rule at) cause e = absurd (omega (arith, e))
-    by_found (RulesRefused why line) cause e = absurd (omega (arith, e))
-    by_found (NotRecord line) cause e = absurd (omega (arith, e))
-    by_found (RecordBroken clause) cause e = absurd (omega (arith, e))
-    by_found (Accepted functions instructions) cause e = absurd (omega (arith, e))
-    by_found (Instrumented target) cause e = absurd (omega (arith, e))
-    by_found (RecordHolds steps threads) cause e = absurd (omega (arith, e))
-    by_found Ran cause e = absurd (not_told Ran kept 3 tt e (λ ten. omega (arith, ten)) refl)
-    by_found (Loaded seed size) cause e = absurd (not_told (Loaded seed size) kept 3 tt e (λ ten. omega (arith, ten)) refl)
-    by_found Recorded cause e = absurd (not_told Recorded kept 3 tt e (λ ten. omega (arith, ten)) refl)
-    by_found (Hushed rules) cause e = absurd (not_told (Hushed rules) kept 3 tt e (λ ten. omega (arith, ten)) refl)
-    by_found (Raced races) cause e = absurd (not_told (Raced races) kept 3 tt e (λ ten. omega (arith, ten)) refl)
-    by_found (Traced violations) cause e = absurd (not_told (Traced violations) kept 3 tt e (λ ten. omega (arith, ten)) refl)
+    by_found found cause e = absurd (unlike found kept 3 e refl)
 
 -- 4: a rule is broken in the program
 pub unverified : (files : FilesSeen) (hosts : HostTable) (sink : SinkSeen) (asked : Option Job) (kept : RunRecord) (answer : ℕ)
@@ -195,10 +234,6 @@ unverified files hosts sink asked kept answer (inl told) is =
   where
     by_found : (found : Outcome) → HasCause files hosts asked kept found → 4 ≡ status_for found kept
         → OfText files asked (OfProgram (IsBrokenFirst hosts))
-    by_found Usage cause e = absurd (omega (arith, e))
-    by_found (FileFault of) cause e = absurd (omega (arith, e))
-    by_found (TooLong of) cause e = absurd (omega (arith, e))
-    by_found (NotRead read_fault) cause e = absurd (omega (arith, e))
     by_found (NotVerified rule at) cause e = record {
       job = cause.0.job;
       is = cause.0.is;
@@ -206,18 +241,7 @@ unverified files hosts sink asked kept answer (inl told) is =
       read = cause.0.read;
       holds = record { program = cause.0.holds.program; reads = cause.0.holds.reads; holds = (rule, at, cause.0.holds.holds) };
     }
-    by_found (RulesRefused why line) cause e = absurd (omega (arith, e))
-    by_found (NotRecord line) cause e = absurd (omega (arith, e))
-    by_found (RecordBroken clause) cause e = absurd (omega (arith, e))
-    by_found (Accepted functions instructions) cause e = absurd (omega (arith, e))
-    by_found (Instrumented target) cause e = absurd (omega (arith, e))
-    by_found (RecordHolds steps threads) cause e = absurd (omega (arith, e))
-    by_found Ran cause e = absurd (not_told Ran kept 4 tt e (λ ten. omega (arith, ten)) refl)
-    by_found (Loaded seed size) cause e = absurd (not_told (Loaded seed size) kept 4 tt e (λ ten. omega (arith, ten)) refl)
-    by_found Recorded cause e = absurd (not_told Recorded kept 4 tt e (λ ten. omega (arith, ten)) refl)
-    by_found (Hushed rules) cause e = absurd (not_told (Hushed rules) kept 4 tt e (λ ten. omega (arith, ten)) refl)
-    by_found (Raced races) cause e = absurd (not_told (Raced races) kept 4 tt e (λ ten. omega (arith, ten)) refl)
-    by_found (Traced violations) cause e = absurd (not_told (Traced violations) kept 4 tt e (λ ten. omega (arith, ten)) refl)
+    by_found found cause e = absurd (unlike found kept 4 e refl)
 
 -- what holds of an input's file, where another holds
 of_input : (P Q : Text → Type 0) (file : Option Text) → ((name : Text) → P name → Q name) → IsSomeAnd file P → IsSomeAnd file Q
@@ -240,7 +264,6 @@ read_cause files hosts sink asked kept answer (inl told) is =
 
     by_found : (found : Outcome) → HasCause files hosts asked kept found → 7 ≡ status_for found kept
         → IsUnread files asked ⊎ OfJob files asked (HasUnreadFile files hosts)
-    by_found Usage cause e = absurd (omega (arith, e))
     by_found (FileFault role.Program) cause e = inl (record {
       job = cause.0.job;
       is = cause.0.is;
@@ -271,20 +294,7 @@ read_cause files hosts sink asked kept answer (inl told) is =
         inr (with_file (TooLong role.Record) cause cause.holds.0
         (inr (inr (of_check (λ check. HasReadInput files check × WasTooLong files check.record most_record_bytes) (λ check. IsRecordFault files check)
         (recheck_in cause.job) (λ check of. inr of.1) cause.holds.1))))
-    by_found (NotRead read_fault) cause e = absurd (omega (arith, e))
-    by_found (NotVerified rule at) cause e = absurd (omega (arith, e))
-    by_found (RulesRefused why line) cause e = absurd (omega (arith, e))
-    by_found (NotRecord line) cause e = absurd (omega (arith, e))
-    by_found (RecordBroken clause) cause e = absurd (omega (arith, e))
-    by_found (Accepted functions instructions) cause e = absurd (omega (arith, e))
-    by_found (Instrumented target) cause e = absurd (omega (arith, e))
-    by_found (RecordHolds steps threads) cause e = absurd (omega (arith, e))
-    by_found Ran cause e = absurd (not_told Ran kept 7 tt e (λ ten. omega (arith, ten)) refl)
-    by_found (Loaded seed size) cause e = absurd (not_told (Loaded seed size) kept 7 tt e (λ ten. omega (arith, ten)) refl)
-    by_found Recorded cause e = absurd (not_told Recorded kept 7 tt e (λ ten. omega (arith, ten)) refl)
-    by_found (Hushed rules) cause e = absurd (not_told (Hushed rules) kept 7 tt e (λ ten. omega (arith, ten)) refl)
-    by_found (Raced races) cause e = absurd (not_told (Raced races) kept 7 tt e (λ ten. omega (arith, ten)) refl)
-    by_found (Traced violations) cause e = absurd (not_told (Traced violations) kept 7 tt e (λ ten. omega (arith, ten)) refl)
+    by_found found cause e = absurd (unlike found kept 7 e refl)
 
 -- 12: a line of the rules was refused
 pub refused_rules : (files : FilesSeen) (hosts : HostTable) (sink : SinkSeen) (asked : Option Job) (kept : RunRecord) (answer : ℕ)
@@ -294,11 +304,6 @@ refused_rules files hosts sink asked kept answer (inl told) is =
     by_found told.found told.cause (put_whole sink _ (status_for told.found kept) answer 12 told.puts is uncut_12).0
   where
     by_found : (found : Outcome) → HasCause files hosts asked kept found → 12 ≡ status_for found kept → OfJob files asked (HasRefusedRules files hosts)
-    by_found Usage cause e = absurd (omega (arith, e))
-    by_found (FileFault of) cause e = absurd (omega (arith, e))
-    by_found (TooLong of) cause e = absurd (omega (arith, e))
-    by_found (NotRead read_fault) cause e = absurd (omega (arith, e))
-    by_found (NotVerified rule at) cause e = absurd (omega (arith, e))
     by_found (RulesRefused why line) cause e = record {
       job = cause.job;
       is = cause.is;
@@ -311,17 +316,7 @@ refused_rules files hosts sink asked kept answer (inl told) is =
             (λ file of. (of.0, of.1, (why, line, of.2))) cause.holds.1;
       };
     }
-    by_found (NotRecord line) cause e = absurd (omega (arith, e))
-    by_found (RecordBroken clause) cause e = absurd (omega (arith, e))
-    by_found (Accepted functions instructions) cause e = absurd (omega (arith, e))
-    by_found (Instrumented target) cause e = absurd (omega (arith, e))
-    by_found (RecordHolds steps threads) cause e = absurd (omega (arith, e))
-    by_found Ran cause e = absurd (not_told Ran kept 12 tt e (λ ten. omega (arith, ten)) refl)
-    by_found (Loaded seed size) cause e = absurd (not_told (Loaded seed size) kept 12 tt e (λ ten. omega (arith, ten)) refl)
-    by_found Recorded cause e = absurd (not_told Recorded kept 12 tt e (λ ten. omega (arith, ten)) refl)
-    by_found (Hushed rules) cause e = absurd (not_told (Hushed rules) kept 12 tt e (λ ten. omega (arith, ten)) refl)
-    by_found (Raced races) cause e = absurd (not_told (Raced races) kept 12 tt e (λ ten. omega (arith, ten)) refl)
-    by_found (Traced violations) cause e = absurd (not_told (Traced violations) kept 12 tt e (λ ten. omega (arith, ten)) refl)
+    by_found found cause e = absurd (unlike found kept 12 e refl)
 
 -- 11: the record's text is not that of a right record
 pub wrong_record : (files : FilesSeen) (hosts : HostTable) (sink : SinkSeen) (asked : Option Job) (kept : RunRecord) (answer : ℕ)
@@ -352,23 +347,9 @@ wrong_record files hosts sink asked kept answer (inl told) is =
     }
 
     by_found : (found : Outcome) → HasCause files hosts asked kept found → 11 ≡ status_for found kept → OfJob files asked (ReadsRecord IsWrongText files hosts)
-    by_found Usage cause e = absurd (omega (arith, e))
-    by_found (FileFault of) cause e = absurd (omega (arith, e))
-    by_found (TooLong of) cause e = absurd (omega (arith, e))
-    by_found (NotRead read_fault) cause e = absurd (omega (arith, e))
-    by_found (NotVerified rule at) cause e = absurd (omega (arith, e))
-    by_found (RulesRefused why line) cause e = absurd (omega (arith, e))
     by_found (NotRecord line) cause e = with_text (NotRecord line) tt cause cause.holds.0 cause.holds.1 e
     by_found (RecordBroken clause) cause e = with_text (RecordBroken clause) tt cause cause.holds.0 cause.holds.1 e
-    by_found (Accepted functions instructions) cause e = absurd (omega (arith, e))
-    by_found (Instrumented target) cause e = absurd (omega (arith, e))
-    by_found (RecordHolds steps threads) cause e = absurd (omega (arith, e))
-    by_found Ran cause e = absurd (not_told Ran kept 11 tt e (λ ten. omega (arith, ten)) refl)
-    by_found (Loaded seed size) cause e = absurd (not_told (Loaded seed size) kept 11 tt e (λ ten. omega (arith, ten)) refl)
-    by_found Recorded cause e = absurd (not_told Recorded kept 11 tt e (λ ten. omega (arith, ten)) refl)
-    by_found (Hushed rules) cause e = absurd (not_told (Hushed rules) kept 11 tt e (λ ten. omega (arith, ten)) refl)
-    by_found (Raced races) cause e = absurd (not_told (Raced races) kept 11 tt e (λ ten. omega (arith, ten)) refl)
-    by_found (Traced violations) cause e = absurd (not_told (Traced violations) kept 11 tt e (λ ten. omega (arith, ten)) refl)
+    by_found found cause e = absurd (unlike found kept 11 e refl)
 
 -- 0 of a check of a record: the record's text is that of a right record
 pub right_record : (files : FilesSeen) (hosts : HostTable) (sink : SinkSeen) (asked : Option Job) (kept : RunRecord) (answer : ℕ)
@@ -407,15 +388,7 @@ right_record files hosts sink asked kept answer (inl told) checks is =
     by_found (RulesRefused why line) cause e = absurd (omega (arith, e))
     by_found (NotRecord line) cause e = absurd (omega (arith, e))
     by_found (RecordBroken clause) cause e = absurd (omega (arith, e))
-    by_found (Accepted functions instructions) cause e = with_text (Accepted functions instructions) cause cause.holds.0 cause.holds.1 e
-    by_found (Instrumented target) cause e = with_text (Instrumented target) cause cause.holds.0 cause.holds.1 e
-    by_found (RecordHolds steps threads) cause e = with_text (RecordHolds steps threads) cause cause.holds.0 cause.holds.1 e
-    by_found Ran cause e = with_text Ran cause cause.holds.0 cause.holds.1 e
-    by_found (Loaded seed size) cause e = with_text (Loaded seed size) cause cause.holds.0 cause.holds.1 e
-    by_found Recorded cause e = with_text Recorded cause cause.holds.0 cause.holds.1 e
-    by_found (Hushed rules) cause e = with_text (Hushed rules) cause cause.holds.0 cause.holds.1 e
-    by_found (Raced races) cause e = with_text (Raced races) cause cause.holds.0 cause.holds.1 e
-    by_found (Traced violations) cause e = with_text (Traced violations) cause cause.holds.0 cause.holds.1 e
+    by_found found cause e = with_text found cause cause.holds.0 cause.holds.1 e
 
 -- a check of a record leaves none
 pub leaves_none : (files : FilesSeen) (hosts : HostTable) (sink : SinkSeen) (asked : Option Job) (kept : RunRecord) (answer : ℕ)
@@ -447,37 +420,32 @@ no_record files hosts sink asked kept answer (inl told) is = by_status is
   where
     by_found : (n : ℕ) (found : Outcome) → HasCause files hosts asked kept found → n ≡ status_for found kept → n ≢ 0 → n ≢ 10 → is_run_status n ≡ false
         → kept ≡ empty_record
-    by_found n Usage cause e low other unlike = cause.1
-    by_found n (FileFault role.Program) cause e low other unlike = cause.1
-    by_found n (FileFault role.Rules) cause e low other unlike = cause.holds.2
-    by_found n (FileFault role.Input) cause e low other unlike = cause.holds.2
-    by_found n (FileFault role.Record) cause e low other unlike = cause.holds.2
-    by_found n (TooLong role.Program) cause e low other unlike = cause.1
-    by_found n (TooLong role.Rules) cause e low other unlike = cause.holds.2
-    by_found n (TooLong role.Input) cause e low other unlike = cause.holds.2
-    by_found n (TooLong role.Record) cause e low other unlike = cause.holds.2
-    by_found n (NotRead read_fault) cause e low other unlike = cause.1
-    by_found n (NotVerified rule at) cause e low other unlike = cause.1
-    by_found n (RulesRefused why line) cause e low other unlike = cause.holds.2
-    by_found n (NotRecord line) cause e low other unlike = (of_text files hosts kept (NotRecord line) cause.program cause.job tt cause.holds.1).1
-    by_found n (RecordBroken clause) cause e low other unlike =
+    by_found n Usage cause e low other strange = cause.1
+    by_found n (FileFault role.Program) cause e low other strange = cause.1
+    by_found n (FileFault role.Rules) cause e low other strange = cause.holds.2
+    by_found n (FileFault role.Input) cause e low other strange = cause.holds.2
+    by_found n (FileFault role.Record) cause e low other strange = cause.holds.2
+    by_found n (TooLong role.Program) cause e low other strange = cause.1
+    by_found n (TooLong role.Rules) cause e low other strange = cause.holds.2
+    by_found n (TooLong role.Input) cause e low other strange = cause.holds.2
+    by_found n (TooLong role.Record) cause e low other strange = cause.holds.2
+    by_found n (NotRead read_fault) cause e low other strange = cause.1
+    by_found n (NotVerified rule at) cause e low other strange = cause.1
+    by_found n (RulesRefused why line) cause e low other strange = cause.holds.2
+    by_found n (NotRecord line) cause e low other strange = (of_text files hosts kept (NotRecord line) cause.program cause.job tt cause.holds.1).1
+    by_found n (RecordBroken clause) cause e low other strange =
         (of_text files hosts kept (RecordBroken clause) cause.program cause.job tt cause.holds.1).1
-    by_found n (Accepted functions instructions) cause e low other unlike = absurd (low e)
-    by_found n (Instrumented target) cause e low other unlike = absurd (low e)
-    by_found n (RecordHolds steps threads) cause e low other unlike = absurd (low e)
-    by_found n Ran cause e low other unlike = absurd (not_told Ran kept n tt e other unlike)
-    by_found n (Loaded seed size) cause e low other unlike = absurd (not_told (Loaded seed size) kept n tt e other unlike)
-    by_found n Recorded cause e low other unlike = absurd (not_told Recorded kept n tt e other unlike)
-    by_found n (Hushed rules) cause e low other unlike = absurd (not_told (Hushed rules) kept n tt e other unlike)
-    by_found n (Raced races) cause e low other unlike = absurd (not_told (Raced races) kept n tt e other unlike)
-    by_found n (Traced violations) cause e low other unlike = absurd (not_told (Traced violations) kept n tt e other unlike)
+    by_found n (Accepted functions instructions) cause e low other strange = absurd (low e)
+    by_found n (Instrumented target) cause e low other strange = absurd (low e)
+    by_found n (RecordHolds steps threads) cause e low other strange = absurd (low e)
+    by_found n found cause e low other strange = absurd (not_told found kept n tt e other strange)
 
     at : (n : ℕ) → answer ≡ n → (IsCutShort n → ⊥) → n ≢ 0 → n ≢ 10 → is_run_status n ≡ false → kept ≡ empty_record
-    at n e uncut some other unlike =
-        by_found n told.found told.cause (put_whole sink _ (status_for told.found kept) answer n told.puts e uncut).0 some other unlike
+    at n e uncut some other strange =
+        by_found n told.found told.cause (put_whole sink _ (status_for told.found kept) answer n told.puts e uncut).0 some other strange
 
     low : (n : ℕ) → answer ≡ n → n < 8 → n ≢ 0 → is_run_status n ≡ false → kept ≡ empty_record
-    low n e small some unlike = at n e (uncut_low n small) some (λ ten. omega (arith, small, ten)) unlike
+    low n e small some strange = at n e (uncut_low n small) some (λ ten. omega (arith, small, ten)) strange
 
     by_status : (answer ≡ 2) ⊎ (answer ≡ 3) ⊎ (answer ≡ 4) ⊎ (answer ≡ 7) ⊎ (answer ≡ 11) ⊎ (answer ≡ 12) → kept ≡ empty_record
     by_status (inl e) = low 2 e (omega arith) (λ z. omega (arith, z)) refl
@@ -528,12 +496,7 @@ run_with files hosts sink asked kept answer n holds (inl told) is small some run
     by_found (Accepted functions instructions) cause e text = absurd (some e)
     by_found (Instrumented target) cause e text = absurd (some e)
     by_found (RecordHolds steps threads) cause e text = absurd (some e)
-    by_found Ran cause e text = a_run Ran tt cause e text
-    by_found (Loaded seed size) cause e text = a_run (Loaded seed size) tt cause e text
-    by_found Recorded cause e text = a_run Recorded tt cause e text
-    by_found (Hushed rules) cause e text = a_run (Hushed rules) tt cause e text
-    by_found (Raced races) cause e text = a_run (Raced races) tt cause e text
-    by_found (Traced violations) cause e text = a_run (Traced violations) tt cause e text
+    by_found found cause e text = a_run found tt cause e text
 
 -- 0: a run without violations, or a program that was accepted, or its target code, or a right record
 clean : (files : FilesSeen) (hosts : HostTable) (sink : SinkSeen) (asked : Option Job) (kept : RunRecord) (answer : ℕ)
@@ -557,14 +520,6 @@ clean files hosts sink asked kept answer (inl told) is =
         → Appends sink.taken_before sink.taken_after (text_for found kept)
         → RanWith files hosts sink asked kept answer (λ found. not (tells_violation found kept)) ⊎ AcceptedWhole files hosts sink asked kept
         ⊎ InstrumentedWhole files hosts sink asked kept ⊎ RecheckedWhole files hosts sink asked kept
-    by_found Usage cause e text = absurd (omega (arith, e))
-    by_found (FileFault of) cause e text = absurd (omega (arith, e))
-    by_found (TooLong of) cause e text = absurd (omega (arith, e))
-    by_found (NotRead read_fault) cause e text = absurd (omega (arith, e))
-    by_found (NotVerified rule at) cause e text = absurd (omega (arith, e))
-    by_found (RulesRefused why line) cause e text = absurd (omega (arith, e))
-    by_found (NotRecord line) cause e text = absurd (omega (arith, e))
-    by_found (RecordBroken clause) cause e text = absurd (omega (arith, e))
     by_found (Accepted functions instructions) cause e text =
         inr (inl (record { functions = functions; instructions = instructions; cause = cause; text = text }))
     by_found (Instrumented target) cause e text = inr (inr (inl (record { target = target; cause = cause; text = text })))
@@ -576,6 +531,7 @@ clean files hosts sink asked kept answer (inl told) is =
     by_found (Hushed rules) cause e text = inl (a_run (Hushed rules) tt cause e text)
     by_found (Raced races) cause e text = inl (a_run (Raced races) tt cause e text)
     by_found (Traced violations) cause e text = inl (a_run (Traced violations) tt cause e text)
+    by_found found cause e text = absurd (unlike found kept 0 e refl)
 
 -- 10: a run with data races
 raced : (files : FilesSeen) (hosts : HostTable) (sink : SinkSeen) (asked : Option Job) (kept : RunRecord) (answer : ℕ)
@@ -605,23 +561,8 @@ raced files hosts sink asked kept answer (inl told) is =
 
     by_found : (found : Outcome) → HasCause files hosts asked kept found → 10 ≡ status_for found kept
         → Appends sink.taken_before sink.taken_after (text_for found kept) → RacedWhole files hosts sink asked kept
-    by_found Usage cause e text = absurd (omega (arith, e))
-    by_found (FileFault of) cause e text = absurd (omega (arith, e))
-    by_found (TooLong of) cause e text = absurd (omega (arith, e))
-    by_found (NotRead read_fault) cause e text = absurd (omega (arith, e))
-    by_found (NotVerified rule at) cause e text = absurd (omega (arith, e))
-    by_found (RulesRefused why line) cause e text = absurd (omega (arith, e))
-    by_found (NotRecord line) cause e text = absurd (omega (arith, e))
-    by_found (RecordBroken clause) cause e text = absurd (omega (arith, e))
-    by_found (Accepted functions instructions) cause e text = absurd (omega (arith, e))
-    by_found (Instrumented target) cause e text = absurd (omega (arith, e))
-    by_found (RecordHolds steps threads) cause e text = absurd (omega (arith, e))
-    by_found Ran cause e text = absurd (not_own Ran e)
-    by_found (Loaded seed size) cause e text = absurd (not_own (Loaded seed size) e)
-    by_found Recorded cause e text = absurd (not_own Recorded e)
-    by_found (Hushed rules) cause e text = absurd (not_own (Hushed rules) e)
     by_found (Raced races) cause e text = with_races races cause (raced_as 10 (status_of kept) (length races) e) text
-    by_found (Traced violations) cause e text = absurd (not_own (Traced violations) e)
+    by_found found cause e text = absurd (unlike found kept 10 e refl)
 
 -- 0, 1, 5, 6 and 10: a run of which the whole text was put; 0 also: a program was accepted, or its target code made, or a record
 -- found right
@@ -654,26 +595,38 @@ memory_cause files hosts sink asked kept answer (inl told) is = by_puts told.put
 
     by_found : (found : Outcome) → HasCause files hosts asked kept found → answer ≡ status_for found kept
         → Appends sink.taken_before sink.taken_after (text_for found kept) → RanWith files hosts sink asked kept answer (λ found. any_end is_no_memory kept)
-    by_found Usage cause e text = absurd (omega (arith, e, is))
-    by_found (FileFault of) cause e text = absurd (omega (arith, e, is))
-    by_found (TooLong of) cause e text = absurd (omega (arith, e, is))
-    by_found (NotRead read_fault) cause e text = absurd (omega (arith, e, is))
-    by_found (NotVerified rule at) cause e text = absurd (omega (arith, e, is))
-    by_found (RulesRefused why line) cause e text = absurd (omega (arith, e, is))
-    by_found (NotRecord line) cause e text = absurd (omega (arith, e, is))
-    by_found (RecordBroken clause) cause e text = absurd (omega (arith, e, is))
-    by_found (Accepted functions instructions) cause e text = absurd (omega (arith, e, is))
-    by_found (Instrumented target) cause e text = absurd (omega (arith, e, is))
-    by_found (RecordHolds steps threads) cause e text = absurd (omega (arith, e, is))
     by_found Ran cause e text = a_run Ran tt cause e text
     by_found (Loaded seed size) cause e text = a_run (Loaded seed size) tt cause e text
     by_found Recorded cause e text = a_run Recorded tt cause e text
     by_found (Hushed rules) cause e text = a_run (Hushed rules) tt cause e text
     by_found (Raced races) cause e text = a_run (Raced races) tt cause e text
     by_found (Traced violations) cause e text = a_run (Traced violations) tt cause e text
+    by_found found cause e text = absurd (unlike found kept 9 (sym is ∙ e) refl)
 
     by_puts : Puts sink (text_for told.found kept) (status_for told.found kept) answer
         → PutNothing files hosts sink asked kept ⊎ RanWith files hosts sink asked kept answer (λ found. any_end is_no_memory kept)
     by_puts (whole e text) = inr (by_found told.found told.cause e text)
     by_puts (failed e rose prefix) = absurd (omega (arith, e, is))
     by_puts (no_memory e keeps) = inl (record { nothing = keeps; record_kept = left files hosts asked kept told.found told.cause })
+
+-- 2: nothing was asked for
+pub unasked : (files : FilesSeen) (hosts : HostTable) (sink : SinkSeen) (asked : Option Job) (kept : RunRecord) (answer : ℕ)
+    → Answers files hosts sink asked kept answer → answer ≡ 2 → asked ≡ None
+unasked files hosts sink asked kept answer (inr out) is = absurd (let nine = out.status in omega (arith, nine, is))
+unasked files hosts sink asked kept answer (inl told) is =
+    by_found told.found told.cause (put_whole sink _ (status_for told.found kept) answer 2 told.puts is (uncut_low 2 (omega arith))).0
+  where
+    by_found : (found : Outcome) → HasCause files hosts asked kept found → 2 ≡ status_for found kept → asked ≡ None
+    by_found Usage cause e = cause.0
+    by_found found cause e = absurd (unlike found kept 2 e refl)
+
+-- 8: the sink failed
+pub put_cause : (files : FilesSeen) (hosts : HostTable) (sink : SinkSeen) (asked : Option Job) (kept : RunRecord) (answer : ℕ)
+    → Answers files hosts sink asked kept answer → PutCause sink answer
+put_cause files hosts sink asked kept answer (inr out) is = absurd (let nine = out.status in omega (arith, nine, is))
+put_cause files hosts sink asked kept answer (inl told) is = by_puts told.puts
+  where
+    by_puts : Puts sink (text_for told.found kept) (status_for told.found kept) answer → Rose sink.faults_before sink.faults_after
+    by_puts (whole e text) = absurd (unlike told.found kept 8 (sym is ∙ e) (never_8 told.found))
+    by_puts (failed e rose prefix) = rose
+    by_puts (no_memory e keeps) = absurd (omega (arith, e, is))

@@ -2,10 +2,8 @@
 use Rattle.std.specs.Prelude.{◌≡◌, ◌⊎◌, ℕ, List, length, Option, Some, None, IfSome, IsSomeAnd}
 use Rattle.std.specs.List.{sum_by}
 use Rattle.std.specs.Io.KnownBytes.{Keeps}
-use Rattle.command_words.specs.Jobs.{Job, default_settings, on_one_thread}
+use Rattle.command_words.specs.Jobs.{Job, default_settings}
 use Rattle.command_words.specs.Jobs.Job.{Check, Instrument, Replay, Run, Load, Races, Record, Recheck, Hush, Explain}
-use Rattle.command_words.specs.Meaning.{native_job_meant}
-use Rattle.command_words.specs.declared.jobs.NativeJob.{NativeJob}
 use Rattle.ir_ast.specs.Programs.{function_instructions}
 use Rattle.ir_ast.specs.declared.hosts.HostTable.{HostTable}
 use Rattle.ir_ast.specs.declared.program.Program.{Program}
@@ -33,7 +31,7 @@ use Rattle.suppress.specs.Held.{held_text, held_status}
 use Rattle.suppress.specs.declared.rules.Rules.{Rules}
 use Rattle.record_text.specs.Lines.{record_text}
 use Rattle.workload.specs.Made.{made}
-use Rattle.bsan.specs.Words.{Text, Origin, origin_of, input_in, rules_in, recheck_in, IsFrom, HasLimits, HasSize}
+use Rattle.bsan.specs.Words.{Text, Origin, origin_of, input_in, rules_in, recheck_in, IsFrom}
 use Rattle.bsan.specs.Words.Origin.{InFile, Generated}
 use Rattle.bsan.specs.Seen.{FilesSeen, SinkSeen, Failed, WasTooLong, WasRead, Puts}
 use Rattle.bsan.specs.Lines.{usage_text, file_fault_line, too_long_line, fault_line, rule_line, rules_line, record_line, clause_line, holds_line, load_text, accepted_line}
@@ -145,12 +143,6 @@ pub record OfJob (files : FilesSeen) (asked : Option Job) (P : Job → Program �
   pub program : Program
   pub has : HasProgram (λ file text. WasRead files file most_bytes text) (origin_of job) program
   pub holds : P job program
-
--- a job for native threads is what is asked for; or one native thread can serve it
-abbrev pub IsAskedJob : Option Job → Option NativeJob → Type 0
-IsAskedJob asked None = on_one_thread asked ≡ asked
-IsAskedJob asked (Some job) =
-    (asked ≡ Some (native_job_meant job)) × HasLimits (native_job_meant job) × HasSize (origin_of (native_job_meant job))
 
 -- the text is a program's, which was verified with these hosts
 abbrev pub IsParsed : HostTable → List ℕ → Verified → Type 0

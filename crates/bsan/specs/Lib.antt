@@ -6,3 +6,4 @@ pub mod Rules
 pub mod Rechecks
 pub mod Answer
 pub mod Causes
+pub mod TopCall

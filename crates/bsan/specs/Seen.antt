@@ -22,21 +22,23 @@ pub record SinkSeen : Type 0 where
   pub faults_before : ℕ
   pub faults_after : ℕ
 
-abbrev pub seen_files : (Text → Option (List ℕ)) → (Text → ℕ) → (Text → ℕ) → (Text → ℕ → ℕ) → (Text → ℕ → ℕ) → FilesSeen
-seen_files content faults_before faults_after overlong_before overlong_after = record {
-  content = content;
-  faults_before = faults_before;
-  faults_after = faults_after;
-  overlong_before = overlong_before;
-  overlong_after = overlong_after;
+-- the files of a call as their trait tells of them, by what they were and what they are
+abbrev pub seen_by : {F : Type 0} → (F → Text → Option (List ℕ)) → (F → Text → ℕ) → (F → Text → ℕ → ℕ) → F → F → FilesSeen
+seen_by content faults overlong before after = record {
+  content = content before;
+  faults_before = faults before;
+  faults_after = faults after;
+  overlong_before = overlong before;
+  overlong_after = overlong after;
 }
 
-abbrev pub seen_sink : Option (List ℕ) → Option (List ℕ) → ℕ → ℕ → SinkSeen
-seen_sink taken_before taken_after faults_before faults_after = record {
-  taken_before = taken_before;
-  taken_after = taken_after;
-  faults_before = faults_before;
-  faults_after = faults_after;
+-- the sink of a call, in the same way
+abbrev pub put_by : {K : Type 0} → (K → Option (List ℕ)) → (K → ℕ) → K → K → SinkSeen
+put_by taken faults before after = record {
+  taken_before = taken before;
+  taken_after = taken after;
+  faults_before = faults before;
+  faults_after = faults after;
 }
 
 -- a read of the file failed in the call

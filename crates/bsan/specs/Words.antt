@@ -1,8 +1,12 @@
 -- The words of a command line, and the files that they name.
-use Rattle.std.specs.Prelude.{ℕ, ◌≤◌, List, Option, Some, None, IfSome}
+use Rattle.std.specs.Prelude.{ℕ, ◌≡◌, ◌≤◌, List, Option, Some, None, Result, Ok, Err, IfSome}
 use Rattle.std.specs.Option.{option_and_then}
 use Rattle.command_words.specs.Jobs.{Job, LoadRun, RecordCheck, settings_in}
 use Rattle.command_words.specs.Jobs.Job.{Check, Instrument, Replay, Run, Load, Races, Record, Recheck, Hush, Explain}
+use Rattle.command_words.specs.Meaning.{job_meant}
+use Rattle.command_words.specs.declared.WordsFault.{WordsFault}
+use Rattle.command_words.specs.declared.WordsFault.TheVariants as words
+use Rattle.command_words.specs.declared.jobs.Job.{Job as ReadJob}
 use Rattle.core_model.specs.Running.{AreLimits}
 
 -- a word, or a name of a file, as its bytes
@@ -58,3 +62,13 @@ HasLimits job = IfSome (settings_in job) (λ settings. AreLimits settings.limits
 abbrev pub HasSize : Origin → Type 0
 HasSize (InFile file) = Unit {0}
 HasSize (Generated run) = (1 ≤ run.size) × (run.size ≤ 10000)
+
+-- both
+abbrev pub IsInRange : Job → Type 0
+IsInRange job = HasLimits job × HasSize (origin_of job)
+
+-- what was read of the words is what they ask for, or that they ask for nothing; where memory ran out it tells nothing of that
+abbrev pub IsReadOf : Option Job → Result ReadJob WordsFault → Type 0
+IsReadOf asked (Ok job) = asked ≡ Some (job_meant job)
+IsReadOf asked (Err words.Refused) = asked ≡ None
+IsReadOf asked (Err words.NoMemory) = Unit {0}

@@ -9,7 +9,7 @@ ghost use Rattle.report.specs.Report.{IsReportable};
 ghost use Rattle.suppress.specs.Held as held;
 ghost use Rattle.bsan.specs.Answer.{FindsIn};
 ghost use Rattle.bsan.specs.Rules.{AreRulesIn, AreNoRules, AreUnloaded, OfRead};
-ghost use Rattle.bsan.specs.Seen.{seen_files};
+ghost use Rattle.bsan.specs.Seen.{seen_by};
 
 use crate::load::{read_file, unread_file, unread_input};
 use crate::native::Native;
@@ -82,10 +82,10 @@ fn load_rules<S: Files>(
 ) -> Result<Result<Rules, Outcome>, NoMemory>
     ensures loaded { IfOk result (λ loaded. MatchResult loaded
         (λ rules. OfRead
-        (seen_files (S.content files.old) (S.faults files.old) (S.faults files.new) (S.overlong files.old) (S.overlong files.new))
+        (seen_by S.content S.faults S.overlong files.old files.new)
         file.now (λ text. AreRulesIn verified.now.program text rules))
         (AreUnloaded
-        (seen_files (S.content files.old) (S.faults files.old) (S.faults files.new) (S.overlong files.old) (S.overlong files.new))
+        (seen_by S.content S.faults S.overlong files.old files.new)
         verified.now.program file.now)) }
     ensures content { (other : List ℕ) → S.content files.new other ≡ S.content files.old other }
     ensures faults { (other : List ℕ) → S.faults files.old other ≤ S.faults files.new other }
@@ -111,7 +111,7 @@ impl<'a, R: Threads + Wait + Sync, G: Gate + Sync> Native<'a, R, G> {
         requires limits { AreLimits asked.now.settings.limits }
         requires empty { kept.old ≡ empty_record }
         ensures { MatchResult result (λ found. FindsIn
-            (seen_files (S.content files.old) (S.faults files.old) (S.faults files.new) (S.overlong files.old) (S.overlong files.new))
+            (seen_by S.content S.faults S.overlong files.old files.new)
             self.now.hosts.now.table kept.new found (jobs.Hush (held_meant asked.now)) verified.now.program)
             (λ _. kept.new ≡ empty_record) }
     {

@@ -8,6 +8,7 @@
 //! `bsan_alone` serves the commands that need one native thread: `check`, `instrument`, `solo`, `replay`,
 //! `races`, `recheck` and `explain`.
 //! `bsan` serves `run`, `load`, `record` and `hush` besides, which have a native thread for each thread of the program.
+//! Both read the words once, and hand on what they ask for.
 #![tactic(auto)]
 
 mod generated;
@@ -22,5 +23,5 @@ mod record;
 mod top;
 
 pub use laws::the_others_are_held;
-pub use native::bsan;
+pub use native::{bsan, bsan_asked};
 pub use top::bsan_alone;

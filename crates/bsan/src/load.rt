@@ -3,7 +3,7 @@ ghost use Rattle.std.specs.Prelude.{◌≡◌, ◌≢◌, ◌≤◌, ℕ, List, 
 ghost use Rattle.std.specs.Option.{option_map, IsSomeAnd};
 ghost use Rattle.ir_text.specs.Bytes.{most_bytes};
 ghost use Rattle.bsan.specs.Answer.{IsBrokenRule, IsUnreadFile, IsParsed, IsNoProgram, IsLoaded, IsUnloaded};
-ghost use Rattle.bsan.specs.Seen.{seen_files, Failed, WasTooLong, WasRead};
+ghost use Rattle.bsan.specs.Seen.{seen_by, Failed, WasTooLong, WasRead};
 ghost use Rattle.bsan.specs.Runs.{IsInput};
 ghost use Rattle.bsan.specs.Words.Origin.{InFile};
 
@@ -26,13 +26,13 @@ pub(crate) fn read_file<S: Files>(
     bytes: &mut Vec<u8>,
 ) -> Result<(), FileFault>
     ensures read { OnOk result (WasRead
-        (seen_files (S.content files.old) (S.faults files.old) (S.faults files.new) (S.overlong files.old) (S.overlong files.new))
+        (seen_by S.content S.faults S.overlong files.old files.new)
         name.now most_bytes bytes.new.items) }
     ensures failed { IsErrOf result FileFault.Failed → Failed
-        (seen_files (S.content files.old) (S.faults files.old) (S.faults files.new) (S.overlong files.old) (S.overlong files.new))
+        (seen_by S.content S.faults S.overlong files.old files.new)
         name.now }
     ensures too_long { IsErrOf result FileFault.TooLong → WasTooLong
-        (seen_files (S.content files.old) (S.faults files.old) (S.faults files.new) (S.overlong files.old) (S.overlong files.new))
+        (seen_by S.content S.faults S.overlong files.old files.new)
         name.now most_bytes }
     ensures content { (other : List ℕ) → S.content files.new other ≡ S.content files.old other }
     ensures faults { (other : List ℕ) → S.faults files.old other ≤ S.faults files.new other }
@@ -49,13 +49,13 @@ pub(crate) fn read_input<S: Files>(
 ) -> Result<(), FileFault>
     requires { input.old.items ≡ [] }
     ensures read { OnOk result (IsInput
-        (seen_files (S.content files.old) (S.faults files.old) (S.faults files.new) (S.overlong files.old) (S.overlong files.new))
+        (seen_by S.content S.faults S.overlong files.old files.new)
         (option_map (λ name. name.now) name.entry) input.new.items) }
     ensures failed { IsErrOf result FileFault.Failed → IsSomeAnd (option_map (λ name. name.now) name.entry) (λ file. Failed
-        (seen_files (S.content files.old) (S.faults files.old) (S.faults files.new) (S.overlong files.old) (S.overlong files.new))
+        (seen_by S.content S.faults S.overlong files.old files.new)
         file) }
     ensures too_long { IsErrOf result FileFault.TooLong → IsSomeAnd (option_map (λ name. name.now) name.entry) (λ file. WasTooLong
-        (seen_files (S.content files.old) (S.faults files.old) (S.faults files.new) (S.overlong files.old) (S.overlong files.new))
+        (seen_by S.content S.faults S.overlong files.old files.new)
         file most_bytes) }
     ensures content { (other : List ℕ) → S.content files.new other ≡ S.content files.old other }
     ensures faults { (other : List ℕ) → S.faults files.old other ≤ S.faults files.new other }
@@ -141,10 +141,10 @@ pub(crate) fn load<S: Files>(
 ) -> Result<Result<Verified, Outcome>, NoMemory>
     ensures loaded { IfOk result (λ loaded. MatchResult loaded
         (IsLoaded
-        (seen_files (S.content files.old) (S.faults files.old) (S.faults files.new) (S.overlong files.old) (S.overlong files.new))
+        (seen_by S.content S.faults S.overlong files.old files.new)
         hosts.now.table (InFile file.now))
         (IsUnloaded
-        (seen_files (S.content files.old) (S.faults files.old) (S.faults files.new) (S.overlong files.old) (S.overlong files.new))
+        (seen_by S.content S.faults S.overlong files.old files.new)
         hosts.now.table (InFile file.now))) }
     ensures content { (other : List ℕ) → S.content files.new other ≡ S.content files.old other }
     ensures faults { (other : List ℕ) → S.faults files.old other ≤ S.faults files.new other }

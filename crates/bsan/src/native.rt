@@ -1,25 +1,24 @@
 //! Jobs for native threads, and the top call that serves them.
-ghost use Rattle.std.specs.Prelude.{◌≡◌, ◌≤◌, ℕ, List, Some, map, string_bytes, MatchResult, IfOk, OnOk, OnErr, IsErrOf};
+ghost use Rattle.std.specs.Prelude.{◌≡◌, ◌≤◌, ℕ, List, Option, Some, map, string_bytes, MatchResult, IfOk, OnOk, OnErr, IsErrOf};
 ghost use Rattle.std.specs.Option.{IsSomeAnd};
 ghost use Rattle.command_words.specs.Jobs as jobs;
-ghost use Rattle.command_words.specs.Meaning.{load_meant, native_job_meant, native_meant, settings_meant};
+ghost use Rattle.command_words.specs.Meaning.{job_meant, load_meant, native_job_meant, native_meant, settings_meant};
 ghost use Rattle.core_model.specs.Running.{AreLimits};
 ghost use Rattle.history.specs.Records.{empty_record};
 ghost use Rattle.ir_text.specs.Bytes.{most_bytes};
 ghost use Rattle.source_sem.specs.Records.{IsRightRecord};
-ghost use Rattle.bsan.specs.Answer.{FindsIn, HasCause, Answers, IsAskedJob, IsLoaded, IsUnloaded};
+ghost use Rattle.bsan.specs.Answer.{FindsIn, HasCause, Answers, IsLoaded, IsUnloaded};
 ghost use Rattle.bsan.specs.Runs.{IsNativeRun};
-ghost use Rattle.bsan.specs.Seen.{seen_files, seen_sink, Failed, WasTooLong};
-ghost use Rattle.bsan.specs.Words.{HasLimits, HasSize, origin_of};
-ghost use Rattle.bsan.specs.Causes.{UsageCause, ReadCause, NotReadCause, NotVerifiedCause, RulesCause, RecordCause, PutCause, RunCause, MemoryCause};
-ghost use Rattle.bsan.specs.Causes.{LeavesNone, IsComplete};
+ghost use Rattle.bsan.specs.Seen.{seen_by, put_by, Failed, WasTooLong};
+ghost use Rattle.bsan.specs.TopCall.{IsTopCall};
+ghost use Rattle.bsan.specs.Words.{HasLimits, HasSize, IsInRange, IsReadOf, origin_of};
 
 use crate::generated::generate;
 use crate::load::{load, read_input, unread_input};
 use crate::outcome::Outcome;
-use crate::top::{NO_MEMORY, bsan_alone, tell};
+use crate::top::{NO_MEMORY, answer_fault, answer_job, tell};
 use bsan_ids::{Limits, NoMemory};
-use command_words::{LoadRun, NativeJob, NativeRun, Settings, WordsFault, read_job};
+use command_words::{Job, LoadRun, NativeJob, NativeRun, Settings, WordsFault, read_job};
 use core_model::main_machine;
 use hosts::Hosts;
 use instrument::instrument;
@@ -74,13 +73,13 @@ impl<'a, R: Threads + Wait + Sync, G: Gate + Sync> Native<'a, R, G> {
         requires limits { AreLimits settings.now.limits }
         requires empty { kept.old ≡ empty_record }
         ensures ran { OnOk result (IsNativeRun
-            (seen_files (S.content files.old) (S.faults files.old) (S.faults files.new) (S.overlong files.old) (S.overlong files.new))
+            (seen_by S.content S.faults S.overlong files.old files.new)
             self.now.hosts.now.table kept.new verified.now.program (settings_meant settings.now)) }
         ensures failed { IsErrOf result FileFault.Failed → IsSomeAnd (settings_meant settings.now).input (λ file. Failed
-            (seen_files (S.content files.old) (S.faults files.old) (S.faults files.new) (S.overlong files.old) (S.overlong files.new))
+            (seen_by S.content S.faults S.overlong files.old files.new)
             file) }
         ensures too_long { IsErrOf result FileFault.TooLong → IsSomeAnd (settings_meant settings.now).input (λ file. WasTooLong
-            (seen_files (S.content files.old) (S.faults files.old) (S.faults files.new) (S.overlong files.old) (S.overlong files.new))
+            (seen_by S.content S.faults S.overlong files.old files.new)
             file most_bytes) }
         ensures err { OnErr result (kept.new ≡ empty_record) }
     {
@@ -104,7 +103,7 @@ impl<'a, R: Threads + Wait + Sync, G: Gate + Sync> Native<'a, R, G> {
         requires limits { AreLimits asked.now.settings.limits }
         requires empty { kept.old ≡ empty_record }
         ensures { MatchResult result (λ found. FindsIn
-            (seen_files (S.content files.old) (S.faults files.old) (S.faults files.new) (S.overlong files.old) (S.overlong files.new))
+            (seen_by S.content S.faults S.overlong files.old files.new)
             self.now.hosts.now.table kept.new found (jobs.Run (native_meant asked.now)) verified.now.program)
             (λ _. kept.new ≡ empty_record) }
     {
@@ -125,7 +124,7 @@ impl<'a, R: Threads + Wait + Sync, G: Gate + Sync> Native<'a, R, G> {
         requires hosts { verified.now.hosts ≡ self.now.hosts.now.table }
         requires empty { kept.old ≡ empty_record }
         ensures { MatchResult result (λ found. FindsIn
-            (seen_files (S.content files.old) (S.faults files.old) (S.faults files.new) (S.overlong files.old) (S.overlong files.new))
+            (seen_by S.content S.faults S.overlong files.old files.new)
             self.now.hosts.now.table kept.new found (jobs.Load (load_meant asked.now)) verified.now.program)
             (λ _. kept.new ≡ empty_record) }
     {
@@ -150,7 +149,7 @@ impl<'a, R: Threads + Wait + Sync, G: Gate + Sync> Native<'a, R, G> {
         requires limits { HasLimits (native_job_meant job.now) }
         requires empty { kept.old ≡ empty_record }
         ensures { MatchResult result (λ found. FindsIn
-            (seen_files (S.content files.old) (S.faults files.old) (S.faults files.new) (S.overlong files.old) (S.overlong files.new))
+            (seen_by S.content S.faults S.overlong files.old files.new)
             self.now.hosts.now.table kept.new found (native_job_meant job.now) verified.now.program)
             (λ _. kept.new ≡ empty_record) }
     {
@@ -171,10 +170,10 @@ impl<'a, R: Threads + Wait + Sync, G: Gate + Sync> Native<'a, R, G> {
         requires { HasSize (origin_of (native_job_meant job.now)) }
         ensures loaded { IfOk result (λ loaded. MatchResult loaded
             (IsLoaded
-            (seen_files (S.content files.old) (S.faults files.old) (S.faults files.new) (S.overlong files.old) (S.overlong files.new))
+            (seen_by S.content S.faults S.overlong files.old files.new)
             self.now.hosts.now.table (origin_of (native_job_meant job.now)))
             (IsUnloaded
-            (seen_files (S.content files.old) (S.faults files.old) (S.faults files.new) (S.overlong files.old) (S.overlong files.new))
+            (seen_by S.content S.faults S.overlong files.old files.new)
             self.now.hosts.now.table (origin_of (native_job_meant job.now)))) }
         ensures content { (other : List ℕ) → S.content files.new other ≡ S.content files.old other }
         ensures faults { (other : List ℕ) → S.faults files.old other ≤ S.faults files.new other }
@@ -196,15 +195,14 @@ impl<'a, R: Threads + Wait + Sync, G: Gate + Sync> Native<'a, R, G> {
         files: &mut S,
         kept: &mut RunRecord,
     ) -> Result<Outcome, NoMemory>
-        requires limits { HasLimits (native_job_meant job.now) }
-        requires size { HasSize (origin_of (native_job_meant job.now)) }
+        requires range { IsInRange (native_job_meant job.now) }
+        requires empty { kept.old ≡ empty_record }
         ensures { MatchResult result
             (HasCause
-            (seen_files (S.content files.old) (S.faults files.old) (S.faults files.new) (S.overlong files.old) (S.overlong files.new))
+            (seen_by S.content S.faults S.overlong files.old files.new)
             self.now.hosts.now.table (Some (native_job_meant job.now)) kept.new)
             (λ _. kept.new ≡ empty_record) }
     {
-        kept.clear();
         match self.program(job, files)? {
             Ok(verified) => self.serve(job, &verified, files, kept),
             Err(found) => Ok(found),
@@ -219,12 +217,12 @@ impl<'a, R: Threads + Wait + Sync, G: Gate + Sync> Native<'a, R, G> {
         out: &mut K,
         kept: &mut RunRecord,
     ) -> u8
-        requires limits { HasLimits (native_job_meant job.now) }
-        requires size { HasSize (origin_of (native_job_meant job.now)) }
+        requires range { IsInRange (native_job_meant job.now) }
+        requires empty { kept.old ≡ empty_record }
         ensures { Answers
-            (seen_files (S.content files.old) (S.faults files.old) (S.faults files.new) (S.overlong files.old) (S.overlong files.new))
+            (seen_by S.content S.faults S.overlong files.old files.new)
             self.now.hosts.now.table
-            (seen_sink (K.taken out.old) (K.taken out.new) (K.faults out.old) (K.faults out.new))
+            (put_by K.taken K.faults out.old out.new)
             (Some (native_job_meant job.now)) kept.new result }
     {
         match self.find(job, files, kept) {
@@ -234,55 +232,69 @@ impl<'a, R: Threads + Wait + Sync, G: Gate + Sync> Native<'a, R, G> {
     }
 }
 
-/// The job for native threads that the words ask for, if they do.
-fn asked_job<'w>(alloc: Global, words: &'w [String]) -> Result<Option<NativeJob<'w>>, NoMemory>
-    ensures { IfOk result (IsAskedJob (jobs.job_of (map string_bytes words.entry.now))) }
-{
-    match read_job(alloc, words) {
-        Ok(job) => Ok(job.native()),
-        Err(WordsFault::Refused) => Ok(None),
-        Err(WordsFault::NoMemory) => Err(NoMemory),
-    }
-}
-
-/// Does the work, and puts its text: a run on native threads itself, and all else as `bsan_alone` does.
+/// Does the work, and puts its text: of a job for native threads here, of another one on this thread.
 fn answer<R: Threads + Wait + Sync, S: Files, K: Sink, G: Gate + Sync>(
     rt: &R,
     alloc: Global,
-    words: &[String],
+    asked: &Result<Job<'_>, WordsFault>,
     files: &mut S,
     out: &mut K,
     gate: &G,
     hosts: &Hosts,
     kept: &mut RunRecord,
 ) -> u8
-    ensures { Answers
-        (seen_files (S.content files.old) (S.faults files.old) (S.faults files.new) (S.overlong files.old) (S.overlong files.new))
-        hosts.now.table
-        (seen_sink (K.taken out.old) (K.taken out.new) (K.faults out.old) (K.faults out.new))
-        (jobs.job_of (map string_bytes words.now)) kept.new result }
+    requires range { IfOk asked.now (λ job. IsInRange (job_meant job)) }
+    ensures { (words : Option jobs.Job) → IsReadOf words asked.now → Answers
+        (seen_by S.content S.faults S.overlong files.old files.new) hosts.now.table (put_by K.taken K.faults out.old out.new)
+        words kept.new result }
 {
     kept.clear();
-    match asked_job(alloc, words) {
-        Ok(Some(job)) => {
+    let job = match asked {
+        Ok(job) => job,
+        Err(fault) => return answer_fault(alloc, *fault, out, kept),
+    };
+    match job.native() {
+        Some(native_job) => {
             let native = Native {
                 rt,
                 alloc,
                 gate,
                 hosts,
             };
-            native.answer(&job, files, out, kept)
+            native.answer(&native_job, files, out, kept)
         }
-        Ok(None) => bsan_alone(alloc, words, files, out, hosts, kept),
-        Err(NoMemory) => NO_MEMORY,
+        None => answer_job(alloc, job, files, out, hosts, kept),
     }
+}
+
+/// Does what [`bsan`] does by the words of which `asked` is what [`read_job`] made, for a caller that needs it too.
+pub fn bsan_asked<R: Threads + Wait + Sync, S: Files, K: Sink, G: Gate + Sync>(
+    rt: &R,
+    alloc: Global,
+    asked: &Result<Job<'_>, WordsFault>,
+    files: &mut S,
+    out: &mut K,
+    gate: &G,
+    hosts: &Hosts,
+    kept: &mut RunRecord,
+) -> u8
+    requires range { IfOk asked.now (λ job. IsInRange (job_meant job)) }
+    ensures { (words : Option jobs.Job) → IsReadOf words asked.now → IsTopCall
+        (seen_by S.content S.faults S.overlong files.old files.new)
+        hosts.now.table
+        (put_by K.taken K.faults out.old out.new)
+        words
+        kept.new
+        result }
+{
+    answer(rt, alloc, asked, files, out, gate, hosts, kept)
 }
 
 /// Serves `run FILE`, which runs the program of the file with a native thread for each thread that it starts, and puts
 /// the report of that run; `load SEED SIZE`, which runs the program that the number SEED gives so, whose four workers each
 /// make SIZE stores; `record FILE`, which runs a program as `run` does and puts the text of its record; `hush FILE RULES`,
 /// which runs a program as `run` does and puts its report without the violations that
-/// the rules of a file hold back; and all commands of [`bsan_alone`], which it calls for them. `run`, `record` and `hush` take the
+/// the rules of a file hold back; and all commands of [`bsan_alone`](crate::bsan_alone), as that does. `run`, `record` and `hush` take the
 /// same options. `load` takes none: its run has no input and the limits that they have without a value. After `load` the
 /// text of a run is the line `load SEED SIZE: ` with the summary of the report, and the line of its status. All of them may
 /// wait for their threads. The `gate` is told where they have come to.
@@ -318,71 +330,14 @@ pub fn bsan<R: Threads + Wait + Sync, S: Files, K: Sink, G: Gate + Sync>(
     hosts: &Hosts,
     kept: &mut RunRecord,
 ) -> u8
-    // Something was found for its cause, with this record, and its text was put for this answer.
-    ensures answer { Answers
-        (seen_files (S.content files.old) (S.faults files.old) (S.faults files.new) (S.overlong files.old) (S.overlong files.new))
+    ensures { IsTopCall
+        (seen_by S.content S.faults S.overlong files.old files.new)
         hosts.now.table
-        (seen_sink (K.taken out.old) (K.taken out.new) (K.faults out.old) (K.faults out.new))
-        (jobs.job_of (map string_bytes words.now)) kept.new result }
-
-    // 0: only after a run without violations, those aside that rules hold, or where a program was accepted or its target code
-    // made, or a record found right.
-    // 1, 5, 6, 10: only after a run with violations, with a trap, with a limit, with a data race. The whole text was put.
-    ensures run { RunCause
-        (seen_files (S.content files.old) (S.faults files.old) (S.faults files.new) (S.overlong files.old) (S.overlong files.new))
-        hosts.now.table
-        (seen_sink (K.taken out.old) (K.taken out.new) (K.faults out.old) (K.faults out.new))
-        (jobs.job_of (map string_bytes words.now)) kept.new result }
-
-    // 2: exactly where the words ask for nothing.
-    ensures usage { UsageCause (jobs.job_of (map string_bytes words.now)) result }
-
-    // 3: exactly where the text is refused, unless the program's file was not read.
-    ensures not_read { NotReadCause
-        (seen_files (S.content files.old) (S.faults files.old) (S.faults files.new) (S.overlong files.old) (S.overlong files.new))
-        (jobs.job_of (map string_bytes words.now)) result }
-
-    // 4: exactly where a rule is broken in the program, unless its file was not read.
-    ensures not_verified { NotVerifiedCause
-        (seen_files (S.content files.old) (S.faults files.old) (S.faults files.new) (S.overlong files.old) (S.overlong files.new))
-        hosts.now.table (jobs.job_of (map string_bytes words.now)) result }
-
-    // 12: exactly where the program is accepted and a line of the rules is refused, unless a file before was not read.
-    ensures rules { RulesCause
-        (seen_files (S.content files.old) (S.faults files.old) (S.faults files.new) (S.overlong files.old) (S.overlong files.new))
-        hosts.now.table (jobs.job_of (map string_bytes words.now)) result }
-
-    // 11: exactly where the program is accepted and the record's file is not the text of a right record, unless it or a file
-    // before was not read; after `recheck` 0: exactly where it is one. `recheck` leaves no record.
-    ensures record { RecordCause
-        (seen_files (S.content files.old) (S.faults files.old) (S.faults files.new) (S.overlong files.old) (S.overlong files.new))
-        hosts.now.table (jobs.job_of (map string_bytes words.now)) kept.new result }
-
-    // 7: only where a read of the program's file failed or it was too long, or, where the program is accepted, the
-    // same of the rules' file, the input's or the record's.
-    ensures read_fault { ReadCause
-        (seen_files (S.content files.old) (S.faults files.old) (S.faults files.new) (S.overlong files.old) (S.overlong files.new))
-        hosts.now.table (jobs.job_of (map string_bytes words.now)) result }
-
-    // 8: only where the sink failed.
-    ensures put_fault { PutCause (seen_sink (K.taken out.old) (K.taken out.new) (K.faults out.old) (K.faults out.new)) result }
-
-    // 9: nothing was put, or the whole text of a run in which a thread found no memory.
-    ensures memory { MemoryCause
-        (seen_files (S.content files.old) (S.faults files.old) (S.faults files.new) (S.overlong files.old) (S.overlong files.new))
-        hosts.now.table
-        (seen_sink (K.taken out.old) (K.taken out.new) (K.faults out.old) (K.faults out.new))
-        (jobs.job_of (map string_bytes words.now)) kept.new result }
-
-    // 2, 3, 4, 7, 11 and 12 leave no record.
-    ensures no_record { LeavesNone kept.new result }
-
-    // Where all is well outside, only being out of memory can come between.
-    ensures complete { IsComplete
-        (seen_files (S.content files.old) (S.faults files.old) (S.faults files.new) (S.overlong files.old) (S.overlong files.new))
-        hosts.now.table
-        (seen_sink (K.taken out.old) (K.taken out.new) (K.faults out.old) (K.faults out.new))
-        (jobs.job_of (map string_bytes words.now)) kept.new result }
+        (put_by K.taken K.faults out.old out.new)
+        (jobs.job_of (map string_bytes words.now))
+        kept.new
+        result }
 {
-    answer(rt, alloc, words, files, out, gate, hosts, kept)
+    let asked = read_job(alloc, words);
+    bsan_asked(rt, alloc, &asked, files, out, gate, hosts, kept)
 }

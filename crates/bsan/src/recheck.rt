@@ -6,7 +6,7 @@ ghost use Rattle.core_model.specs.Running.{AreLimits};
 ghost use Rattle.history.specs.Records.{empty_record};
 ghost use Rattle.bsan.specs.Answer.{FindsIn};
 ghost use Rattle.bsan.specs.Rechecks.{most_record_bytes, IsFoundOf};
-ghost use Rattle.bsan.specs.Seen.{seen_files, Failed, WasTooLong, WasRead};
+ghost use Rattle.bsan.specs.Seen.{seen_by, Failed, WasTooLong, WasRead};
 
 use crate::load::{read_input, unread_file, unread_input};
 use crate::outcome::{Outcome, Role};
@@ -30,13 +30,13 @@ fn read_record_file<S: Files>(
     bytes: &mut Vec<u8>,
 ) -> Result<(), FileFault>
     ensures read { OnOk result (WasRead
-        (seen_files (S.content files.old) (S.faults files.old) (S.faults files.new) (S.overlong files.old) (S.overlong files.new))
+        (seen_by S.content S.faults S.overlong files.old files.new)
         name.now most_record_bytes bytes.new.items) }
     ensures failed { IsErrOf result FileFault.Failed → Failed
-        (seen_files (S.content files.old) (S.faults files.old) (S.faults files.new) (S.overlong files.old) (S.overlong files.new))
+        (seen_by S.content S.faults S.overlong files.old files.new)
         name.now }
     ensures too_long { IsErrOf result FileFault.TooLong → WasTooLong
-        (seen_files (S.content files.old) (S.faults files.old) (S.faults files.new) (S.overlong files.old) (S.overlong files.new))
+        (seen_by S.content S.faults S.overlong files.old files.new)
         name.now most_record_bytes }
 {
     files.read_file(name, RECORD_LIMIT, bytes)
@@ -88,7 +88,7 @@ pub(crate) fn serve_recheck<S: Files>(
     requires hosts { verified.now.hosts ≡ hosts.now.table }
     requires limits { AreLimits asked.now.settings.limits }
     ensures { IfOk result (λ found. FindsIn
-        (seen_files (S.content files.old) (S.faults files.old) (S.faults files.new) (S.overlong files.old) (S.overlong files.new))
+        (seen_by S.content S.faults S.overlong files.old files.new)
         hosts.now.table empty_record found (jobs.Recheck (recheck_meant asked.now)) verified.now.program) }
 {
     let settings = &asked.settings;

@@ -5,7 +5,7 @@ ghost use Rattle.command_words.specs.Meaning.{native_meant};
 ghost use Rattle.core_model.specs.Running.{AreLimits};
 ghost use Rattle.history.specs.Records.{empty_record};
 ghost use Rattle.bsan.specs.Answer.{FindsIn};
-ghost use Rattle.bsan.specs.Seen.{seen_files};
+ghost use Rattle.bsan.specs.Seen.{seen_by};
 
 use crate::load::unread_input;
 use crate::native::Native;
@@ -31,7 +31,7 @@ impl<'a, R: Threads + Wait + Sync, G: Gate + Sync> Native<'a, R, G> {
         requires limits { AreLimits asked.now.settings.limits }
         requires empty { kept.old ≡ empty_record }
         ensures { MatchResult result (λ found. FindsIn
-            (seen_files (S.content files.old) (S.faults files.old) (S.faults files.new) (S.overlong files.old) (S.overlong files.new))
+            (seen_by S.content S.faults S.overlong files.old files.new)
             self.now.hosts.now.table kept.new found (jobs.Record (native_meant asked.now)) verified.now.program)
             (λ _. kept.new ≡ empty_record) }
     {

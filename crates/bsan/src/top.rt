@@ -1,20 +1,21 @@
 //! The top call.
-ghost use Rattle.std.specs.Prelude.{◌≡◌, None, map, string_bytes, MatchResult, IfOk, OnOk, OnErr, IsErrOf};
+ghost use Rattle.std.specs.Prelude.{◌≡◌, Option, Some, None, Err, map, string_bytes, MatchResult, IfOk, OnOk, OnErr, IsErrOf};
 ghost use Rattle.std.specs.Option.{IsSomeAnd};
 ghost use Rattle.command_words.specs.Jobs.{job_of, native_in, on_one_thread};
+ghost use Rattle.command_words.specs.Jobs as jobs;
 ghost use Rattle.command_words.specs.Meaning.{job_meant, run_meant};
 ghost use Rattle.core_model.specs.Kept.{Replayed};
 ghost use Rattle.core_model.specs.Running.{AreLimits};
+ghost use Rattle.ir_ast.specs.declared.hosts.HostTable.{HostTable};
 ghost use Rattle.ir_text.specs.Bytes.{most_bytes};
 ghost use Rattle.history.specs.Records.{empty_record, merged, HasDistinctStamps};
 ghost use Rattle.explain.specs.Explanations.{AreHistories};
 ghost use Rattle.bsan.specs.Answer.{FindsIn, HasCause, Answers, CanBeTold, IsTold, IsRaced, IsTraced};
-ghost use Rattle.bsan.specs.Seen.{seen_files, seen_sink, Failed, WasTooLong, Puts};
+ghost use Rattle.bsan.specs.Seen.{FilesSeen, seen_by, put_by, Failed, WasTooLong, Puts};
 ghost use Rattle.bsan.specs.Runs.{IsScheduledRun};
-ghost use Rattle.bsan.specs.Words.{origin_of, HasLimits};
+ghost use Rattle.bsan.specs.TopCall.{IsTopCall};
+ghost use Rattle.bsan.specs.Words.{origin_of, HasLimits, IsReadOf};
 ghost use Rattle.bsan.specs.Words.Origin.{InFile};
-ghost use Rattle.bsan.specs.Causes.{UsageCause, ReadCause, NotReadCause, NotVerifiedCause, RulesCause, RecordCause, PutCause, RunCause, MemoryCause};
-ghost use Rattle.bsan.specs.Causes.{LeavesNone, IsComplete};
 
 use crate::load::{load, read_input, unread_input};
 use crate::outcome::{Outcome, status_for, text_for};
@@ -39,7 +40,7 @@ pub(crate) const NO_MEMORY: u8 = 9;
 
 /// Puts a text whose status is given, and answers that status, or 8 or 9 where the put failed.
 fn put_text<K: Sink>(out: &mut K, text: &[u8], status: u8) -> u8
-    ensures { Puts (seen_sink (K.taken out.old) (K.taken out.new) (K.faults out.old) (K.faults out.new)) text.now status result }
+    ensures { Puts (put_by K.taken K.faults out.old out.new) text.now status result }
 {
     match out.put(text) {
         Ok(()) => status,
@@ -91,13 +92,13 @@ fn run<S: Files>(
     requires limits { AreLimits asked.now.settings.limits }
     requires empty { kept.old ≡ empty_record }
     ensures ran { OnOk result (IsScheduledRun
-        (seen_files (S.content files.old) (S.faults files.old) (S.faults files.new) (S.overlong files.old) (S.overlong files.new))
+        (seen_by S.content S.faults S.overlong files.old files.new)
         hosts.now.table kept.new verified.now.program (run_meant asked.now)) }
     ensures failed { IsErrOf result FileFault.Failed → IsSomeAnd (run_meant asked.now).settings.input (λ file. Failed
-        (seen_files (S.content files.old) (S.faults files.old) (S.faults files.new) (S.overlong files.old) (S.overlong files.new))
+        (seen_by S.content S.faults S.overlong files.old files.new)
         file) }
     ensures too_long { IsErrOf result FileFault.TooLong → IsSomeAnd (run_meant asked.now).settings.input (λ file. WasTooLong
-        (seen_files (S.content files.old) (S.faults files.old) (S.faults files.new) (S.overlong files.old) (S.overlong files.new))
+        (seen_by S.content S.faults S.overlong files.old files.new)
         file most_bytes) }
     ensures err { OnErr result (kept.new ≡ empty_record) }
 {
@@ -158,7 +159,7 @@ fn serve_replay<S: Files>(
     requires limits { AreLimits asked.now.settings.limits }
     requires empty { kept.old ≡ empty_record }
     ensures { MatchResult result (λ found. FindsIn
-        (seen_files (S.content files.old) (S.faults files.old) (S.faults files.new) (S.overlong files.old) (S.overlong files.new))
+        (seen_by S.content S.faults S.overlong files.old files.new)
         hosts.now.table kept.new found (job_meant (Job.Replay asked.now)) verified.now.program)
         (λ _. kept.new ≡ empty_record) }
 {
@@ -181,7 +182,7 @@ fn serve_races<S: Files>(
     requires limits { AreLimits asked.now.settings.limits }
     requires empty { kept.old ≡ empty_record }
     ensures { MatchResult result (λ found. FindsIn
-        (seen_files (S.content files.old) (S.faults files.old) (S.faults files.new) (S.overlong files.old) (S.overlong files.new))
+        (seen_by S.content S.faults S.overlong files.old files.new)
         hosts.now.table kept.new found (job_meant (Job.Races asked.now)) verified.now.program)
         (λ _. kept.new ≡ empty_record) }
 {
@@ -204,7 +205,7 @@ fn serve_explain<S: Files>(
     requires limits { AreLimits asked.now.settings.limits }
     requires empty { kept.old ≡ empty_record }
     ensures { MatchResult result (λ found. FindsIn
-        (seen_files (S.content files.old) (S.faults files.old) (S.faults files.new) (S.overlong files.old) (S.overlong files.new))
+        (seen_by S.content S.faults S.overlong files.old files.new)
         hosts.now.table kept.new found (job_meant (Job.Explain asked.now)) verified.now.program)
         (λ _. kept.new ≡ empty_record) }
 {
@@ -228,7 +229,7 @@ fn serve<S: Files>(
     requires limits { HasLimits (job_meant job.now) }
     requires empty { kept.old ≡ empty_record }
     ensures { MatchResult result (λ found. FindsIn
-        (seen_files (S.content files.old) (S.faults files.old) (S.faults files.new) (S.overlong files.old) (S.overlong files.new))
+        (seen_by S.content S.faults S.overlong files.old files.new)
         hosts.now.table kept.new found (job_meant job.now) verified.now.program)
         (λ _. kept.new ≡ empty_record) }
 {
@@ -261,31 +262,23 @@ fn file_of<'w>(job: &Job<'w>) -> &'w str
     }
 }
 
-/// Does the work of a call, up to its text: the words, the program and the job.
+/// Does the work of a job, up to its text: the program and what is asked of it.
 fn find<S: Files>(
     alloc: Global,
-    words: &[String],
+    job: &Job<'_>,
     files: &mut S,
     hosts: &Hosts,
     kept: &mut RunRecord,
 ) -> Result<Outcome, NoMemory>
+    requires alone { native_in (job_meant job.now) ≡ None }
+    requires limits { HasLimits (job_meant job.now) }
+    requires empty { kept.old ≡ empty_record }
     ensures { MatchResult result
-        (HasCause
-        (seen_files (S.content files.old) (S.faults files.old) (S.faults files.new) (S.overlong files.old) (S.overlong files.new))
-        hosts.now.table (on_one_thread (job_of (map string_bytes words.now))) kept.new)
+        (HasCause (seen_by S.content S.faults S.overlong files.old files.new) hosts.now.table (Some (job_meant job.now)) kept.new)
         (λ _. kept.new ≡ empty_record) }
 {
-    kept.clear();
-    let job = match read_job(alloc, words) {
-        Ok(job) => job,
-        Err(WordsFault::Refused) => return Ok(Outcome::Usage),
-        Err(WordsFault::NoMemory) => return Err(NoMemory),
-    };
-    if job.native().is_some() {
-        return Ok(Outcome::Usage);
-    }
-    match load(alloc, file_of(&job), files, hosts)? {
-        Ok(verified) => serve(alloc, &job, &verified, files, hosts, kept),
+    match load(alloc, file_of(job), files, hosts)? {
+        Ok(verified) => serve(alloc, job, &verified, files, hosts, kept),
         Err(found) => Ok(found),
     }
 }
@@ -293,7 +286,7 @@ fn find<S: Files>(
 /// Puts the text of what was found.
 pub(crate) fn tell<K: Sink>(alloc: Global, found: &Outcome, out: &mut K, kept: &RunRecord) -> u8
     requires { CanBeTold found.now kept.now }
-    ensures { IsTold (seen_sink (K.taken out.old) (K.taken out.new) (K.faults out.old) (K.faults out.new)) found.now kept.now result }
+    ensures { IsTold (put_by K.taken K.faults out.old out.new) found.now kept.now result }
 {
     let Ok(text) = text_for(alloc, found, kept) else {
         return NO_MEMORY;
@@ -304,7 +297,59 @@ pub(crate) fn tell<K: Sink>(alloc: Global, found: &Outcome, out: &mut K, kept: &
     put_text(out, text.as_slice(), status)
 }
 
-/// Does the work, and puts its text.
+/// Does the work of a job that one native thread can serve, and puts its text.
+pub(crate) fn answer_job<S: Files, K: Sink>(
+    alloc: Global,
+    job: &Job<'_>,
+    files: &mut S,
+    out: &mut K,
+    hosts: &Hosts,
+    kept: &mut RunRecord,
+) -> u8
+    requires alone { native_in (job_meant job.now) ≡ None }
+    requires limits { HasLimits (job_meant job.now) }
+    requires empty { kept.old ≡ empty_record }
+    ensures { Answers
+        (seen_by S.content S.faults S.overlong files.old files.new) hosts.now.table (put_by K.taken K.faults out.old out.new)
+        (Some (job_meant job.now)) kept.new result }
+{
+    match find(alloc, job, files, hosts, kept) {
+        Ok(found) => tell(alloc, &found, out, kept),
+        Err(NoMemory) => NO_MEMORY,
+    }
+}
+
+/// The answer where the words ask for nothing, whose text is the usage, or where memory ran out over them.
+pub(crate) fn answer_fault<K: Sink>(
+    alloc: Global,
+    fault: WordsFault,
+    out: &mut K,
+    kept: &RunRecord,
+) -> u8
+    requires empty { kept.now ≡ empty_record }
+    ensures { (files : FilesSeen) (hosts : HostTable) (asked : Option jobs.Job) → IsReadOf asked (Err fault)
+        → Answers files hosts (put_by K.taken K.faults out.old out.new) asked kept.now result }
+{
+    match fault {
+        WordsFault::Refused => tell(alloc, &Outcome::Usage, out, kept),
+        WordsFault::NoMemory => NO_MEMORY,
+    }
+}
+
+/// What the words ask for, where one native thread can serve it.
+fn read_alone<'w>(alloc: Global, words: &'w [String]) -> Result<Job<'w>, WordsFault>
+    ensures read { IsReadOf (on_one_thread (job_of (map string_bytes words.entry.now))) result }
+    ensures alone { IfOk result (λ job. native_in (job_meant job) ≡ None) }
+    ensures limits { IfOk result (λ job. HasLimits (job_meant job)) }
+{
+    let job = read_job(alloc, words)?;
+    match job.native() {
+        Some(_) => Err(WordsFault::Refused),
+        None => Ok(job),
+    }
+}
+
+/// Reads the words, does the work, and puts its text.
 fn answer<S: Files, K: Sink>(
     alloc: Global,
     words: &[String],
@@ -314,14 +359,13 @@ fn answer<S: Files, K: Sink>(
     kept: &mut RunRecord,
 ) -> u8
     ensures { Answers
-        (seen_files (S.content files.old) (S.faults files.old) (S.faults files.new) (S.overlong files.old) (S.overlong files.new))
-        hosts.now.table
-        (seen_sink (K.taken out.old) (K.taken out.new) (K.faults out.old) (K.faults out.new))
+        (seen_by S.content S.faults S.overlong files.old files.new) hosts.now.table (put_by K.taken K.faults out.old out.new)
         (on_one_thread (job_of (map string_bytes words.now))) kept.new result }
 {
-    match find(alloc, words, files, hosts, kept) {
-        Ok(found) => tell(alloc, &found, out, kept),
-        Err(NoMemory) => NO_MEMORY,
+    kept.clear();
+    match read_alone(alloc, words) {
+        Ok(job) => answer_job(alloc, &job, files, out, hosts, kept),
+        Err(fault) => answer_fault(alloc, fault, out, kept),
     }
 }
 
@@ -380,70 +424,13 @@ pub fn bsan_alone<S: Files, K: Sink>(
     hosts: &Hosts,
     kept: &mut RunRecord,
 ) -> u8
-    // Something was found for its cause, with this record, and its text was put for this answer.
-    ensures answer { Answers
-        (seen_files (S.content files.old) (S.faults files.old) (S.faults files.new) (S.overlong files.old) (S.overlong files.new))
+    ensures { IsTopCall
+        (seen_by S.content S.faults S.overlong files.old files.new)
         hosts.now.table
-        (seen_sink (K.taken out.old) (K.taken out.new) (K.faults out.old) (K.faults out.new))
-        (on_one_thread (job_of (map string_bytes words.now))) kept.new result }
-
-    // 0: only after a run without violations, or where a program was accepted or its target code made, or a record found right.
-    // 1, 5, 6, 10: only after a run with violations, with a trap, with a limit, with a data race. The whole text was put.
-    ensures run { RunCause
-        (seen_files (S.content files.old) (S.faults files.old) (S.faults files.new) (S.overlong files.old) (S.overlong files.new))
-        hosts.now.table
-        (seen_sink (K.taken out.old) (K.taken out.new) (K.faults out.old) (K.faults out.new))
-        (on_one_thread (job_of (map string_bytes words.now))) kept.new result }
-
-    // 2: exactly where the words ask for nothing.
-    ensures usage { UsageCause (on_one_thread (job_of (map string_bytes words.now))) result }
-
-    // 3: exactly where the text is refused, unless the program's file was not read.
-    ensures not_read { NotReadCause
-        (seen_files (S.content files.old) (S.faults files.old) (S.faults files.new) (S.overlong files.old) (S.overlong files.new))
-        (on_one_thread (job_of (map string_bytes words.now))) result }
-
-    // 4: exactly where a rule is broken in the program, unless its file was not read.
-    ensures not_verified { NotVerifiedCause
-        (seen_files (S.content files.old) (S.faults files.old) (S.faults files.new) (S.overlong files.old) (S.overlong files.new))
-        hosts.now.table (on_one_thread (job_of (map string_bytes words.now))) result }
-
-    // 12: exactly where the program is accepted and a line of the rules is refused, unless a file before was not read.
-    ensures rules { RulesCause
-        (seen_files (S.content files.old) (S.faults files.old) (S.faults files.new) (S.overlong files.old) (S.overlong files.new))
-        hosts.now.table (on_one_thread (job_of (map string_bytes words.now))) result }
-
-    // 11: exactly where the program is accepted and the record's file is not the text of a right record, unless it or a file
-    // before was not read; after `recheck` 0: exactly where it is one. `recheck` leaves no record.
-    ensures record { RecordCause
-        (seen_files (S.content files.old) (S.faults files.old) (S.faults files.new) (S.overlong files.old) (S.overlong files.new))
-        hosts.now.table (on_one_thread (job_of (map string_bytes words.now))) kept.new result }
-
-    // 7: only where a read of the program's file failed or it was too long, or, where the program is accepted, the
-    // same of the rules' file, the input's or the record's.
-    ensures read_fault { ReadCause
-        (seen_files (S.content files.old) (S.faults files.old) (S.faults files.new) (S.overlong files.old) (S.overlong files.new))
-        hosts.now.table (on_one_thread (job_of (map string_bytes words.now))) result }
-
-    // 8: only where the sink failed.
-    ensures put_fault { PutCause (seen_sink (K.taken out.old) (K.taken out.new) (K.faults out.old) (K.faults out.new)) result }
-
-    // 9: nothing was put, or the whole text of a run in which a thread found no memory.
-    ensures memory { MemoryCause
-        (seen_files (S.content files.old) (S.faults files.old) (S.faults files.new) (S.overlong files.old) (S.overlong files.new))
-        hosts.now.table
-        (seen_sink (K.taken out.old) (K.taken out.new) (K.faults out.old) (K.faults out.new))
-        (on_one_thread (job_of (map string_bytes words.now))) kept.new result }
-
-    // 2, 3, 4, 7, 11 and 12 leave no record.
-    ensures no_record { LeavesNone kept.new result }
-
-    // Where all is well outside, only being out of memory can come between.
-    ensures complete { IsComplete
-        (seen_files (S.content files.old) (S.faults files.old) (S.faults files.new) (S.overlong files.old) (S.overlong files.new))
-        hosts.now.table
-        (seen_sink (K.taken out.old) (K.taken out.new) (K.faults out.old) (K.faults out.new))
-        (on_one_thread (job_of (map string_bytes words.now))) kept.new result }
+        (put_by K.taken K.faults out.old out.new)
+        (on_one_thread (job_of (map string_bytes words.now)))
+        kept.new
+        result }
 {
     answer(alloc, words, files, out, hosts, kept)
 }

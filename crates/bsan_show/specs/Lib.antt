@@ -1,3 +1,2 @@
-pub mod TopCall
 pub mod Kept
 pub mod Shown

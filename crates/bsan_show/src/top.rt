@@ -1,19 +1,20 @@
 //! The top call with notes.
-ghost use Rattle.std.specs.Prelude.{◌≡◌, [], IfOk, map, string_bytes};
+ghost use Rattle.std.specs.Prelude.{◌≡◌, [], Option, IfOk, map, string_bytes};
 ghost use Rattle.std.specs.Option.{option_map};
-ghost use Rattle.command_words.specs.Jobs.{job_of};
+ghost use Rattle.command_words.specs.Jobs as jobs;
 ghost use Rattle.command_words.specs.Meaning.{job_meant};
 ghost use Rattle.explain.specs.Explanations.{AreHistories};
 ghost use Rattle.history.specs.Records.{HasDistinctStamps, empty_record};
 ghost use Rattle.notes.specs.Meaning.{source_meant};
 ghost use Rattle.notes.specs.Whole.{AreNotes};
-ghost use Rattle.bsan.specs.Seen.{seen_files, seen_sink};
+ghost use Rattle.bsan.specs.Seen.{seen_by, put_by};
+ghost use Rattle.bsan.specs.TopCall.{IsTopCall};
+ghost use Rattle.bsan.specs.Words.{IsReadOf};
 ghost use Rattle.bsan_show.specs.Kept.{text_of};
 ghost use Rattle.bsan_show.specs.Shown as shown;
-ghost use Rattle.bsan_show.specs.TopCall.{IsTopCall};
 
 use crate::remembering::Remembering;
-use bsan::bsan;
+use bsan::bsan_asked;
 use bsan_ids::NoMemory;
 use command_words::{Job, WordsFault, read_job};
 use hosts::Hosts;
@@ -130,30 +131,31 @@ fn source_for<'a, S: Files>(
 }
 
 impl<'a, R: Threads + Wait + Sync> Outside<'a, R> {
-    /// The notes on what a call by these words found.
+    /// The notes on what a call found by the words of which this is what `read_job` made.
     fn notes<S: Files>(
         &self,
-        words: &[String],
+        asked: &Result<Job<'_>, WordsFault>,
         files: &Remembering<S>,
         kept: &RunRecord,
     ) -> Result<Vec<u8>, NoMemory>
         requires histories { AreHistories kept.now.allocs }
         requires distinct { HasDistinctStamps kept.now }
-        ensures { IfOk result (λ notes. shown.AreShown self.now.colours self.now.hosts.now.table kept.now
-            (text_of files.now.first) (job_of (map string_bytes words.now)) notes.items) }
+        ensures { (words : Option jobs.Job) → IsReadOf words asked.now → IfOk result (λ notes.
+            shown.AreShown self.now.colours self.now.hosts.now.table kept.now (text_of files.now.first) words notes.items) }
     {
-        let job = match read_job(self.alloc, words) {
+        let job = match asked {
             Ok(job) => job,
             Err(WordsFault::Refused) => return Ok(Vec::new(self.alloc)),
             Err(WordsFault::NoMemory) => return Err(NoMemory),
         };
-        match source_for(self.colours, &job, files) {
-            Some(source) => notes_on(self.alloc, &job, &source, self.hosts, kept),
+        match source_for(self.colours, job, files) {
+            Some(source) => notes_on(self.alloc, job, &source, self.hosts, kept),
             None => Ok(Vec::new(self.alloc)),
         }
     }
 
-    /// The top call, and notes on what it found: what it reads, puts, keeps and answers is as the contract of [`bsan`] says.
+    /// The top call, and notes on what it found: what it reads, puts, keeps and answers is as the contract of
+    /// [`bsan`](bsan::bsan) says.
     pub fn show<S: Files, K: Sink>(
         &self,
         words: &[String],
@@ -162,18 +164,20 @@ impl<'a, R: Threads + Wait + Sync> Outside<'a, R> {
         kept: &mut RunRecord,
     ) -> Shown
         ensures top_call { IsTopCall
-            (seen_files (S.content files.old.files) (S.faults files.old.files) (S.faults files.new.files)
-            (S.overlong files.old.files) (S.overlong files.new.files))
+            (seen_by S.content S.faults S.overlong files.old.files files.new.files)
             self.now.hosts.now.table
-            (seen_sink (K.taken out.old) (K.taken out.new) (K.faults out.old) (K.faults out.new))
-            (job_of (map string_bytes words.now)) kept.new result.status }
+            (put_by K.taken K.faults out.old out.new)
+            (jobs.job_of (map string_bytes words.now))
+            kept.new
+            result.status }
         ensures notes { IfOk result.notes (λ notes. shown.AreShown self.now.colours self.now.hosts.now.table kept.new
-            (text_of files.new.first) (job_of (map string_bytes words.now)) notes.items) }
+            (text_of files.new.first) (jobs.job_of (map string_bytes words.now)) notes.items) }
     {
-        let status = bsan(
-            self.rt, self.alloc, words, files, out, &NoGate, self.hosts, kept,
+        let asked = read_job(self.alloc, words);
+        let status = bsan_asked(
+            self.rt, self.alloc, &asked, files, out, &NoGate, self.hosts, kept,
         );
-        let notes = self.notes(words, files, kept);
+        let notes = self.notes(&asked, files, kept);
         Shown { status, notes }
     }
 }
