@@ -55,7 +55,8 @@ fn trapped(alloc: Global, site: u32) -> Result<RunRecord, Fail>
 
 /// A thread that trapped, and a race of the steps 5 and 7.
 const RUN_NOTES: &str =
-    "note: thread 2 trapped here\n --> p.bir:4:3\n  |\n4 |   %x = alloca 8\n  |   ^\n\n\
+    "thread 2 trapped: BadSize at instruction 0\n --> p.bir:4:3\n  |\n4 |   %x = alloca 8\n  |   ^\n\
+     help: an allocation has one byte at least, and not too many; ask for another size\n\n\
      race on allocation 3\n\
      note: one access was made here by thread 0, step 5\n --> p.bir:5:3\n  |\n5 |   store i64 1, %x\n  |   ^\n\
      note: the other was made here by thread 1, step 7\n --> p.bir:6:3\n  |\n6 |   ret i64 0\n  |   ^\n\
@@ -98,8 +99,9 @@ fn trap_in_long_line(rt: HostRuntime) -> Result<(), Fail> {
     let indent = String::from_utf8(vec![in alloc; b' '; 49]?)?;
     let rest = String::from_utf8(vec![in alloc; b' '; 24]?)?;
     let wanted = format!(in alloc;
-        "note: thread 2 trapped here\n --> p.bir:1:50\n  |\n1 | {ONE_LINE}{rest}\n  | {indent}^\n  \
-         = the line has 1048576 bytes; columns 1 to 100 are shown\n\n"
+        "thread 2 trapped: BadSize at instruction 1\n --> p.bir:1:50\n  |\n1 | {ONE_LINE}{rest}\n  | {indent}^\n  \
+         = the line has 1048576 bytes; columns 1 to 100 are shown\n\
+         help: an allocation has one byte at least, and not too many; ask for another size\n\n"
     )?;
     assert_eq!(rt; notes.as_slice(), wanted.as_bytes());
     Ok(())
