@@ -183,7 +183,8 @@ const RACE_NOTES: &str = "race on allocation 1\n\
 const TRAP: &str = "bir 1\nfunc @main() -> i64 {\nentry:\n\t%a = udiv i64 1, 0\n\tret i64 %a\n}\n";
 
 const TRAP_NOTES: &str =
-    "note: thread 0 trapped here\n --> p:4:2\n  |\n4 |  %a = udiv i64 1, 0\n  |  ^\n\n";
+    "thread 0 trapped: DivZero at instruction 0\n --> p:4:2\n  |\n4 |  %a = udiv i64 1, 0\n  |  ^\n\
+     help: the divisor is 0; test it before the division\n\n";
 
 const CUT: &str = "bir 1\nfunc @main(";
 

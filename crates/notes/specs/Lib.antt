@@ -4,6 +4,7 @@ pub mod Meaning
 pub mod Help
 pub mod Made
 pub mod Causes
+pub mod Traps
 pub mod Violations
 pub mod Races
 pub mod Refusals

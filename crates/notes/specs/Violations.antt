@@ -1,8 +1,7 @@
--- Notes on the violations and the traps of a run.
-use Rattle.std.specs.Prelude.{ℕ, ◌==◌, Option, Some, None, List, [], ◌∷◌, ◌++◌, find, codes, if◌then◌else◌}
+-- Notes on the violations of a run, and on how its threads ended.
+use Rattle.std.specs.Prelude.{ℕ, ◌==◌, Option, Some, None, List, [], ◌++◌, find, codes, if◌then◌else◌}
 use Rattle.std.specs.List.{flat_map}
 use Rattle.std.specs.Option.{option_map}
-use Rattle.std.specs.Fmt.{decimal}
 use Rattle.bsan_ids.specs.declared.numbers.Tag.{Tag}
 use Rattle.bsan_ids.specs.declared.numbers.Prov.{Prov}
 use Rattle.eager_tree.specs.declared.violation.Violation.TheVariants.{Denied, StrongFree}
@@ -13,15 +12,13 @@ use Rattle.history.specs.declared.entry.Request.{Request}
 use Rattle.history.specs.declared.entry.Request.TheVariants.{Load, Store, Modify, CmpXchg, CopyOut, CopyIn, Retag, Free}
 use Rattle.history.specs.declared.entry.Verdict.{Verdict}
 use Rattle.history.specs.declared.entry.Verdict.TheVariants.{Violated}
-use Rattle.history.specs.declared.log.End.{End}
-use Rattle.history.specs.declared.log.End.TheVariants.{Trapped}
-use Rattle.history.specs.declared.log.ThreadLog.{ThreadLog}
 use Rattle.history.specs.declared.record.RunRecord.{RunRecord}
 use Rattle.report.specs.Violation.{violation_line}
-use Rattle.notes.specs.Sources.{Listing, heading, instruction, note_label, help_line}
+use Rattle.notes.specs.Sources.{Listing, heading, instruction, help_line}
 use Rattle.notes.specs.Help.{verdict_help}
 use Rattle.notes.specs.Made.{steps_on, retag_among, kind_of, allocation_note, node_note}
 use Rattle.notes.specs.Causes.{cause_notes}
+use Rattle.notes.specs.Traps.{trap_note}
 
 -- the node that denies a step
 abbrev pub denying_node : Verdict → Option Tag
@@ -71,20 +68,6 @@ violation_note l steps x = heading l.source (violation_line x.violation) ++ (ins
 abbrev pub violation_in : Listing → RunRecord → Explained → List ℕ
 violation_in l kept x = violation_note l (steps_on kept.allocs x.violation.alloc) x
 
--- where a thread trapped, which one line and an excerpt say
-abbrev pub trap_line : ThreadLog → List ℕ
-trap_line log = codes "thread " ++ (decimal log.number.0 ++ codes " trapped here\n")
-
-abbrev pub trapped_note : Listing → ThreadLog → List ℕ
-trapped_note l log = note_label l.source ++ (trap_line log ++ (instruction l log.last ++ 10 ∷ []))
-
-abbrev pub note_at_end : End → Listing → ThreadLog → List ℕ
-note_at_end (Trapped trap) l log = trapped_note l log
-note_at_end _ l log = []
-
-abbrev pub trap_note : Listing → ThreadLog → List ℕ
-trap_note l log = note_at_end log.end l log
-
--- the notes on these explained violations, in their order, and then on the traps
+-- the notes on these explained violations, in their order, and then on the threads that trapped or reached a limit
 abbrev pub run_notes : Listing → RunRecord → List Explained → List ℕ
-run_notes l kept list = flat_map (violation_in l kept) list ++ flat_map (trap_note l) kept.threads
+run_notes l kept list = flat_map (violation_in l kept) list ++ flat_map (trap_note l kept) kept.threads

@@ -79,7 +79,8 @@ fn freed_phrase(alloc: Global, step: &Entry) -> Result<String, AllocError>
     format!(in alloc; "allocation {number} was freed")
 }
 
-fn push_freed(
+/// Adds the note of where an allocation was freed, where that is given.
+pub fn push_freed(
     alloc: Global,
     listing: &Listing<'_>,
     step: Option<&Entry>,

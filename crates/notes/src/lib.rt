@@ -10,6 +10,7 @@ mod made;
 mod races;
 mod refusals;
 mod source;
+mod traps;
 mod violations;
 mod whole;
 

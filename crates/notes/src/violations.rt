@@ -1,5 +1,5 @@
-//! Notes on the violations and the traps of a run.
-ghost use Rattle.std.specs.Prelude.{◌≡◌, ◌++◌, All, IfOk, OnOk, string_bytes};
+//! Notes on the violations of a run, and on how its threads ended.
+ghost use Rattle.std.specs.Prelude.{◌≡◌, ◌++◌, All, IfOk, OnOk};
 ghost use Rattle.std.specs.List.{flat_map};
 ghost use Rattle.std.specs.Option.{option_copied};
 ghost use Rattle.explain.specs.Explanations.{AreExplained, AreHistories};
@@ -10,13 +10,14 @@ ghost use Rattle.notes.specs.Violations as violations;
 use crate::causes::push_causes;
 use crate::help::verdict_help;
 use crate::made::{kind_of, make_among, push_allocation, push_node, retag_among, steps_on};
-use crate::source::{Listing, push_heading, push_help, push_instruction, push_note_label};
+use crate::source::{Listing, push_heading, push_help, push_instruction};
+use crate::traps::push_traps;
 use bsan_ids::{NoMemory, Tag};
 use eager_tree::Violation;
 use explain::Explained;
-use history::{End, Entry, Request, RunRecord, ThreadLog, Verdict};
+use history::{Entry, Request, RunRecord, Verdict};
 use report::violation_line;
-use std::alloc::{AllocError, Global};
+use std::alloc::Global;
 
 /// The node that denies a step.
 fn denying_node(verdict: &Verdict) -> Option<Tag>
@@ -111,61 +112,10 @@ fn push_violations(
     Ok(())
 }
 
-fn trap_line(alloc: Global, log: &ThreadLog) -> Result<String, AllocError>
-    ensures { IfOk result (λ line. string_bytes line ≡ violations.trap_line log.now) }
-{
-    let thread = log.number.0;
-    format!(in alloc; "thread {thread} trapped here\n")
-}
-
-fn push_trapped(
-    alloc: Global,
-    listing: &Listing<'_>,
-    log: &ThreadLog,
-    notes: &mut Vec<u8>,
-) -> Result<(), NoMemory>
-    ensures { OnOk result (notes.new.items ≡ notes.old.items ++ violations.trapped_note (listing_meant listing.now) log.now) }
-{
-    push_note_label(&listing.source, notes)?;
-    notes.extend_from_slice(trap_line(alloc, log)?.as_bytes())?;
-    push_instruction(alloc, listing, log.last, notes)?;
-    notes.push(b'\n')?;
-    Ok(())
-}
-
-/// Adds the note of where a thread trapped, where it did.
-fn push_trap(
-    alloc: Global,
-    listing: &Listing<'_>,
-    log: &ThreadLog,
-    notes: &mut Vec<u8>,
-) -> Result<(), NoMemory>
-    ensures { OnOk result (notes.new.items ≡ notes.old.items ++ violations.trap_note (listing_meant listing.now) log.now) }
-{
-    match log.end {
-        End::Trapped(_) => push_trapped(alloc, listing, log, notes),
-        _ => Ok(()),
-    }
-}
-
-fn push_traps(
-    alloc: Global,
-    listing: &Listing<'_>,
-    logs: &[ThreadLog],
-    notes: &mut Vec<u8>,
-) -> Result<(), NoMemory>
-    ensures { OnOk result (notes.new.items ≡ notes.old.items ++ flat_map (violations.trap_note (listing_meant listing.now)) logs.now) }
-{
-    for log in logs {
-        push_trap(alloc, listing, log, notes)?;
-    }
-    Ok(())
-}
-
 /// The notes on a run, with the explanations of its first violations: for each in the order of the report its line, the
 /// excerpt of its instruction, where the allocation was made, where the node was made that denies the step and since when
 /// it has its state, where the node was made that was used instead, and a sentence of help; then for each thread that
-/// trapped where it did.
+/// trapped or reached a limit where it did, what was refused, where the allocation was made and freed, and a sentence of help.
 pub fn run_notes(
     alloc: Global,
     listing: &Listing<'_>,
@@ -178,6 +128,6 @@ pub fn run_notes(
 {
     let mut notes = Vec::new(alloc);
     push_violations(alloc, listing, kept, list, &mut notes)?;
-    push_traps(alloc, listing, kept.threads.as_slice(), &mut notes)?;
+    push_traps(alloc, listing, kept, kept.threads.as_slice(), &mut notes)?;
     Ok(notes)
 }
