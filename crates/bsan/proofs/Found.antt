@@ -334,9 +334,6 @@ err_of P Q (Ok x) error is holds = absurd cc
 err_of P Q (Err e) error is holds = let same : e ≡ error = cc in subst Q same holds
 
 -- ---- what one native thread serves
-pub alone : (asked : Option Job) (job : Job) → asked ≡ Some job → native_in job ≡ None → on_one_thread asked ≡ Some job
-alone asked job is none = ap on_one_thread is ∙ (rw none refl)
-
 pub not_alone : (asked : Option Job) (job native : Job) → asked ≡ Some job → native_in job ≡ Some native → on_one_thread asked ≡ None
 not_alone asked job native is some = ap on_one_thread is ∙ (rw some refl)
 
@@ -359,11 +356,6 @@ pub read_is : (asked : Option Job) (read : Result ReadJob WordsFault) → IfOk r
 read_is asked (Ok job) is none = is
 read_is asked (Err words.Refused) is none = none refl
 read_is asked (Err words.NoMemory) is none = tt
-
--- what one native thread serves of it
-pub read_alone : (asked : Option Job) (fault : WordsFault) → IsReadOf asked (Err fault) → IsReadOf (on_one_thread asked) (Err fault)
-read_alone asked words.Refused none = ap on_one_thread none
-read_alone asked words.NoMemory none = tt
 
 pub native_read : (asked : Option Job) (read : Result ReadJob WordsFault) (job : ReadJob) (native : Option NativeJob) (one : NativeJob) → IsReadOf asked read
     → read ≡ Ok job → option_map native_job_meant native ≡ native_in (job_meant job) → native ≡ Some one → asked ≡ Some (native_job_meant one)
