@@ -1,0 +1,5 @@
+pub mod Runs
+pub mod Front
+pub mod Steps
+pub mod Unique
+pub mod Order
