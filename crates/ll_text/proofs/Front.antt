@@ -25,7 +25,7 @@ apart p b c passes fails = by_test (eqb b c) refl
     by_test true t = let same : p b ≡ p c = ap p (eqb-true b c t) in let q : true ≡ false = sym passes ∙ same ∙ fails in absurd cc
     by_test false t = refl
 
-not_head : (b : ℕ) → begins_word b ≡ true → (is_blank b ≡ false) × (eqb b 59 ≡ false)
+pub not_head : (b : ℕ) → begins_word b ≡ true → (is_blank b ≡ false) × (eqb b 59 ≡ false)
 not_head b h = (rw (apart begins_word b 32 h refl, apart begins_word b 9 h refl, apart begins_word b 13 h refl, apart begins_word b 10 h refl) refl, apart begins_word b 59 h refl)
 
 either : (x y : Bool) → (x || y) ≡ true → (x ≡ true) ⊎ (y ≡ true)
@@ -61,7 +61,7 @@ number_range b h = elim (either (is_digit b || eqb b 45) (eqb b 43) h) [
   | inr t ↦ let e : b ≡ 43 = eqb-true b 43 t in omega arith
 ]
 
-number_plain : (b : ℕ) → begins_number b ≡ true → (is_blank b ≡ false) × (eqb b 59 ≡ false) × (begins_word b ≡ false)
+pub number_plain : (b : ℕ) → begins_number b ≡ true → (is_blank b ≡ false) × (eqb b 59 ≡ false) × (begins_word b ≡ false)
 number_plain b h = (
   rw (apart begins_number b 32 h refl, apart begins_number b 9 h refl, apart begins_number b 13 h refl, apart begins_number b 10 h refl) refl,
   apart begins_number b 59 h refl,
@@ -70,7 +70,7 @@ number_plain b h = (
 
 -- ---- strings and names
 
-not_zero : (n : ℕ) → 0 < n → eqb n 0 ≡ false
+pub not_zero : (n : ℕ) → 0 < n → eqb n 0 ≡ false
 not_zero n lt = by_test (eqb n 0) refl
   where
     by_test : (x : Bool) → eqb n 0 ≡ x → x ≡ false
@@ -82,7 +82,7 @@ end_short zero rest le h = refl
 end_short (suc j) [] le h = absurd (omega arith)
 end_short (suc j) (x ∷ rest) le h = absurd cc
 
-closed_most : (rest : List ℕ) (j : ℕ) → j ≤ length rest → is_closed (take j rest) ≡ true → (length (take_while in_quote rest) < length rest) × (j ≡ suc (length (take_while in_quote rest)))
+pub closed_most : (rest : List ℕ) (j : ℕ) → j ≤ length rest → is_closed (take j rest) ≡ true → (length (take_while in_quote rest) < length rest) × (j ≡ suc (length (take_while in_quote rest)))
 closed_most rest zero le h = absurd cc
 closed_most [] (suc j) le h = absurd (omega arith)
 closed_most (x ∷ rest) (suc j) le h = rw (take_while-cons in_quote x rest) (by_test (eqb x 34) h (λ k. closed_most rest j (omega arith) k))
@@ -180,13 +180,13 @@ some_sized : (p : List ℕ → Bool) (k : TokenKind) (rest : List ℕ) (n j : �
 some_sized p k rest n j most le h = let m = most j le h in (1 + n, rw (not_zero n m.1) refl, omega (arith, m.0))
 
 -- what is known of a mark
-abbrev IsPlainMark : ℕ → Type 0
+abbrev pub IsPlainMark : ℕ → Type 0
 IsPlainMark b = (rest : List ℕ) → step_of b rest ≡ Token (Mark b) 1
 
 or_else : (P : ℕ → Type 0) (b c : ℕ) (x : Bool) → P c → (x ≡ true → P b) → (x || eqb b c) ≡ true → P b
 or_else P b c x here there h = elim (either x (eqb b c) h) [ inl t ↦ there t | inr t ↦ subst P (sym (eqb-true b c t)) here ]
 
-mark_plain : (b : ℕ) → is_mark b ≡ true → IsPlainMark b
+pub mark_plain : (b : ℕ) → is_mark b ≡ true → IsPlainMark b
 mark_plain b h = or_else P b 124 _ (λ r. refl) (or_else P b 58 _ (λ r. refl) (or_else P b 42 _ (λ r. refl) (or_else P b 61 _ (λ r. refl) (or_else P b 44 _ (λ r. refl) (or_else P b 62 _ (λ r. refl) (or_else P b 60 _ (λ r. refl) (or_else P b 93 _ (λ r. refl) (or_else P b 91 _ (λ r. refl) (or_else P b 125 _ (λ r. refl) (or_else P b 123 _ (λ r. refl) (or_else P b 41 _ (λ r. refl) (λ t. subst P (sym (eqb-true b 40 t)) (λ r. refl))))))))))))) h
   where
     P : ℕ → Type 0

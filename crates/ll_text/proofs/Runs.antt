@@ -3,11 +3,7 @@ use Rattle.std.proofs.Common.{◌≡◌, ℕ, zero, suc, ◌≤◌, Bool, true, 
 use Rattle.std.specs.Prelude.{take_while}
 use Rattle.std.specs.List.{list_all}
 use Rattle.std.proofs.lemmas.List.Sums.{take_while-cons}
-
--- the next byte, if there is one, fails the test
-abbrev pub StopsAt : (ℕ → Bool) → List ℕ → Type 0
-StopsAt p [] = Unit {0}
-StopsAt p (x ∷ xs) = p x ≡ false
+pub use Rattle.ll_text.specs.Laws.{StopsAt}
 
 run : (ℕ → Bool) → List ℕ → ℕ
 run p xs = length (take_while p xs)

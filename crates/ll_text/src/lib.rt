@@ -18,7 +18,7 @@ mod lexer;
 mod step;
 mod token;
 
-pub use laws::{one_outcome, spans_in_order};
+pub use laws::{one_outcome, spans_in_order, written_token};
 pub use lexer::{MOST_BYTES, tokens};
 pub use token::{TextFault, Token, TokenKind};
 
