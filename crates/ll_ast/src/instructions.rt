@@ -161,6 +161,22 @@ pub enum Operation {
         value: Typed,
         indices: Vec<u64>,
     },
+    /// A component of a vector, by a number that may be known only when it runs.
+    ExtractElement {
+        from: Typed,
+        index: Typed,
+    },
+    InsertElement {
+        into: Typed,
+        value: Typed,
+        index: Typed,
+    },
+    /// The components of two vectors that the third, a constant, names by their numbers.
+    ShuffleVector {
+        left: Typed,
+        right: Typed,
+        mask: Typed,
+    },
     Modify {
         op: ModifyOp,
         volatile: bool,

@@ -2,6 +2,7 @@
 //!
 //! One file for each part of the grammar: types, constants, instructions, functions, metadata, and the module of them all.
 //! A name is a [`Span`](bsan_ids::Span) of the text, with its sign (`%`, `@`, `$`, `#`, `!`) and its quotes, as the text has it.
+//! A named type is a number: its place among the module's.
 //! An `at` is the place of a token: the offset of its first byte in the text.
 #![tactic(auto)]
 

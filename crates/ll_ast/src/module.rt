@@ -2,7 +2,7 @@
 use crate::attributes::Attribute;
 use crate::constants::{Typed, Value};
 use crate::functions::Function;
-use crate::metadata::Node;
+use crate::metadata::{Attachment, Node};
 use crate::types::Type;
 use bsan_ids::Span;
 
@@ -13,7 +13,7 @@ pub struct Setting {
     pub value: Span,
 }
 
-/// A type's name and what it names.
+/// A type's name, with `%`, and what it names: `Opaque` if the text says no more than the name.
 #[derive(Drop)]
 pub struct NamedType {
     pub name: Span,
@@ -25,17 +25,20 @@ pub struct NamedType {
 #[derive(Drop)]
 pub struct Global {
     pub name: Span,
+    pub at: u32,
     pub before: Vec<Attribute>,
     pub constant: bool,
     pub ty: Type,
     pub value: Option<Value>,
     pub attributes: Vec<Attribute>,
+    pub attachments: Vec<Attachment>,
 }
 
 /// Another name of a value.
 #[derive(Drop)]
 pub struct Alias {
     pub name: Span,
+    pub at: u32,
     pub before: Vec<Attribute>,
     pub ty: Type,
     pub of: Typed,

@@ -1,5 +1,4 @@
 //! Types.
-use bsan_ids::Span;
 
 /// A kind of floating-point number, named as in the text.
 #[derive(Clone, Copy, Debug, PartialEq, Eq)]
@@ -24,8 +23,8 @@ pub enum Type {
     Pointer(u32),
     /// A pointer of the older form, `T*`, in an address space.
     PointerTo(Box<Type>, u32),
-    /// A type by its name, with `%`.
-    Named(Span),
+    /// A named type, by its place among those of the module.
+    Named(u32),
     /// So many items of a type.
     Array(u64, Box<Type>),
     /// A vector of so many items, or of a multiple of them if it is scalable.
