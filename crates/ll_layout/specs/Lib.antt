@@ -1,0 +1,4 @@
+pub mod Layout
+pub mod Scalars
+pub mod Structs
+pub mod Types

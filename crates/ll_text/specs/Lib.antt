@@ -1,0 +1,4 @@
+pub mod Bytes
+pub mod Step
+pub mod Lexed
+pub mod Laws
