@@ -1,27 +1,24 @@
-//! Whole commands over files in memory, the words that they are given, and the system's files.
+//! Whole commands over files and outputs in memory: the worked programs, reads that fail, outputs without room, threads that a
+//! gate holds; and calls that no command makes. What a program shows stands in the rows of tests/.
 #![tactic(auto)]
 
 #[cfg(test)]
 mod calls;
 #[cfg(test)]
-mod explanations;
-#[cfg(test)]
 mod files;
+#[cfg(test)]
+mod gates;
 #[cfg(test)]
 mod host_table;
 #[cfg(test)]
-mod hush;
-#[cfg(test)]
 mod limits;
 #[cfg(test)]
-mod races;
+mod others;
 #[cfg(test)]
-mod recheck;
+mod records;
 #[cfg(test)]
-mod record;
+mod refusals;
 #[cfg(test)]
-mod texts;
+mod reports;
 #[cfg(test)]
-mod whole_runs;
-#[cfg(test)]
-mod words;
+mod threads;

@@ -1,11 +1,5 @@
-//! Worked programs that are run with a native thread for each of their threads.
+//! Turns of one thread within small limits, and of two threads that share an allocation.
 #![tactic(auto)]
 
-#[cfg(test)]
-mod gates;
-#[cfg(test)]
-mod programs;
-#[cfg(test)]
-mod running;
 #[cfg(test)]
 mod space;

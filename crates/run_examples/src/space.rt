@@ -1,5 +1,5 @@
 //! One thread within small limits, and two threads on one allocation.
-ghost use Rattle.std.specs.Prelude.{◌≡◌, ◌≤◌, All, None, IfOk, OnOk, IfSome};
+ghost use Rattle.std.specs.Prelude.{◌≡◌, ◌≤◌, [], All, None, IfOk, OnOk, IfSome};
 ghost use Rattle.alloc_space.specs.Spaces.{AreCountable};
 ghost use Rattle.alloc_space.specs.Tried.{AreParentAndChild, IsFirstDesk, IsOpen, IsPlain, IsSameDesk, MayStore};
 
@@ -82,7 +82,8 @@ fn load_on<R: Wait>(
 // A load that draws a stamp above the limit: that stamp.
 fn load_beyond<R: Wait>(rt: &R, space: &Space, desk: &mut Desk) -> Result<Stamp, Fail>
     requires { IsOpen space.now desk.old }
-    ensures { IsFirstDesk space.now desk.new }
+    ensures first { IsFirstDesk space.now desk.new }
+    ensures threads { desk.new.view.threads.own ≡ [] }
 {
     match space.step(rt, desk, &NoGate, MAIN, 3, ONE, load()) {
         Stepped::StepLimit(stamp) => Ok(stamp),
@@ -113,10 +114,14 @@ fn one_thread_within_small_limits(rt: HostRuntime) -> Result<(), Fail> {
         return Err(Fail::new("the loaded value"));
     };
     assert_eq!(rt; load_beyond(&rt, &space, &mut desk)?, Stamp(4));
+    let Ok(thread) = space.number_thread(&mut desk) else {
+        return Err(Fail::new("the thread's number"));
+    };
+    assert_eq!(rt; thread, ThreadNo(1));
     let (counters, states) = space.finish(desk)?;
     assert_eq!(rt; counters.stamps, 4);
     assert_eq!(rt; counters.allocs, 2);
-    assert_eq!(rt; counters.threads, 0);
+    assert_eq!(rt; counters.threads, 1);
     assert_eq!(rt; states.len(), 1);
     let entries = states[0].entries();
     assert_eq!(rt; entries.len(), 2);

@@ -1,9 +1,10 @@
-//! Reports of runs: of one thread by itself, and of several, by a schedule or at once.
-use crate::calls::{HALVES_REPORT, RACING, REPORT, Row, SMALLEST, TWO_HALVES, serve};
+//! Reports of one thread, by words, the program, the status and the report that comes.
+use crate::calls::{REPORT, Row, SMALLEST, serve};
 use std::test::Fail;
 
-/// Words, the program, the status and the report that comes, which tells what one thread did wrong with allocations.
-const ALLOCATIONS: [Row; 17] = [
+/// What is written through reborrows of one pointer.
+const REBORROWS: [Row; 5] = [
+    ("solo p", SMALLEST, 0, REPORT),
     // The parent's read freezes the child, which then writes.
     (
         "solo p",
@@ -29,6 +30,25 @@ const ALLOCATIONS: [Row; 17] = [
         0,
         "thread 0 returned 0\nsteps 5, allocations 1, threads 1, violations 0\nstatus 0\n",
     ),
+    // The first violation on each allocation.
+    (
+        "solo p",
+        "bir 1 func @main() -> i64 { entry: %a = alloca 8 %b = alloca 8 %p = retag shr %a, 8 \
+        %q = retag shr %b, 8 store i64 1, %p store i64 2, %p store i64 3, %q ret i64 0 }",
+        1,
+        "violation on allocation 1 by thread 0 at instruction 4, step 5: write 0..8 through tag 3: node 3 is Frozen at byte 0\n\
+        violation on allocation 2 by thread 0 at instruction 6, step 7: write 0..8 through tag 4: node 4 is Frozen at byte 0\n\
+        thread 0 returned 0\nsteps 9, allocations 2, threads 1, violations 2\nstatus 1\n",
+    ),
+];
+
+#[test]
+fn reports_reborrows(rt: HostRuntime) -> Result<(), Fail> {
+    serve(&rt, rt.alloc(), &REBORROWS, true)
+}
+
+/// What is done beside arguments that are protected.
+const PROTECTED: [Row; 4] = [
     // A protected node that became Conflicted writes.
     (
         "solo p",
@@ -62,6 +82,15 @@ const ALLOCATIONS: [Row; 17] = [
         0,
         "thread 0 returned 0\nsteps 5, allocations 1, threads 1, violations 0\nstatus 0\n",
     ),
+];
+
+#[test]
+fn reports_protected_arguments(rt: HostRuntime) -> Result<(), Fail> {
+    serve(&rt, rt.alloc(), &PROTECTED, true)
+}
+
+/// What ends under protectors, and at their ends.
+const RELEASED: [Row; 3] = [
     // A box may be freed under its protector, and a mutable borrow may not.
     (
         "solo p",
@@ -88,6 +117,15 @@ const ALLOCATIONS: [Row; 17] = [
         "violation on allocation 1 by thread 0 at instruction 7, step 6: read 0..8 through tag 4: node 4 is Disabled at byte 0\n\
         thread 0 returned 0\nsteps 7, allocations 1, threads 1, violations 1\nstatus 1\n",
     ),
+];
+
+#[test]
+fn reports_ends_of_protectors(rt: HostRuntime) -> Result<(), Fail> {
+    serve(&rt, rt.alloc(), &RELEASED, true)
+}
+
+/// Accesses beside what was reborrowed, or of another allocation.
+const OUTSIDE: [Row; 4] = [
     (
         "solo p",
         "bir 1 func @main() -> i64 { e: %x = alloca 8 %a = retag mut %x, 0 %b = retag mut %x, 8 %q = gep %x, 1 \
@@ -115,6 +153,23 @@ const ALLOCATIONS: [Row; 17] = [
         violation on allocation 2 by thread 0 at instruction 3, step 3: write 0..8 through tag 1 of allocation 1: stranger\n\
         thread 0 returned 0\nsteps 7, allocations 2, threads 1, violations 1\nstatus 1\n",
     ),
+    // A host's answer has no provenance.
+    (
+        "solo p",
+        "bir 1 func @main() -> i64 { e: %x = alloca 8 %p = host ptr @max(ptr %x, ptr %x) store i64 1, %p ret i64 0 }",
+        1,
+        "violation on allocation 1 by thread 0 at instruction 2, step 3: write 0..8 through no tag: stranger\n\
+        thread 0 returned 0\nsteps 4, allocations 1, threads 1, violations 1\nstatus 1\n",
+    ),
+];
+
+#[test]
+fn reports_accesses_outside(rt: HostRuntime) -> Result<(), Fail> {
+    serve(&rt, rt.alloc(), &OUTSIDE, true)
+}
+
+/// Pointers that are copied in pieces.
+const COPIES: [Row; 2] = [
     // A pointer that is copied in two pieces keeps its provenance, and one of which a byte is overwritten loses it.
     (
         "solo p",
@@ -131,39 +186,15 @@ const ALLOCATIONS: [Row; 17] = [
         "violation on allocation 1 by thread 0 at instruction 11, step 12: write 0..8 through no tag: stranger\n\
         thread 0 returned 0\nsteps 15, allocations 3, threads 1, violations 1\nstatus 1\n",
     ),
-    // The first violation on each allocation.
-    (
-        "solo p",
-        "bir 1 func @main() -> i64 { entry: %a = alloca 8 %b = alloca 8 %p = retag shr %a, 8 \
-        %q = retag shr %b, 8 store i64 1, %p store i64 2, %p store i64 3, %q ret i64 0 }",
-        1,
-        "violation on allocation 1 by thread 0 at instruction 4, step 5: write 0..8 through tag 3: node 3 is Frozen at byte 0\n\
-        violation on allocation 2 by thread 0 at instruction 6, step 7: write 0..8 through tag 4: node 4 is Frozen at byte 0\n\
-        thread 0 returned 0\nsteps 9, allocations 2, threads 1, violations 2\nstatus 1\n",
-    ),
-    // A host's answer has no provenance.
-    (
-        "solo p",
-        "bir 1 func @main() -> i64 { e: %x = alloca 8 %p = host ptr @max(ptr %x, ptr %x) store i64 1, %p ret i64 0 }",
-        1,
-        "violation on allocation 1 by thread 0 at instruction 2, step 3: write 0..8 through no tag: stranger\n\
-        thread 0 returned 0\nsteps 4, allocations 1, threads 1, violations 1\nstatus 1\n",
-    ),
 ];
 
 #[test]
-fn reports_violations(rt: HostRuntime) -> Result<(), Fail> {
-    serve(&rt, rt.alloc(), &ALLOCATIONS, true)
+fn reports_copies(rt: HostRuntime) -> Result<(), Fail> {
+    serve(&rt, rt.alloc(), &COPIES, true)
 }
 
-/// Words, the program, the status and the report that comes, where one thread returns, traps or reaches a limit.
-const ENDS: [Row; 12] = [
-    (
-        "solo p",
-        "bir 01 func @main()->i64{entry:ret i64 007}; and no more",
-        0,
-        "thread 0 returned 7\nsteps 0, allocations 0, threads 1, violations 0\nstatus 0\n",
-    ),
+/// Accesses that trap.
+const TRAPS: [Row; 4] = [
     (
         "solo p",
         "bir 1 func @main() -> i64 { e: %p = malloc 8 free %p %v = load i64, %p ret i64 0 }",
@@ -188,12 +219,15 @@ const ENDS: [Row; 12] = [
         5,
         "thread 0 trapped: NoAllocation at instruction 1\nsteps 1, allocations 0, threads 1, violations 0\nstatus 5\n",
     ),
-    (
-        "solo p",
-        "bir 1 func @main() -> i64 { e: %a = host i64 @popcount(i64 255) print i64 %a ret i64 0 }",
-        0,
-        "thread 0 prints 8\nthread 0 returned 0\nsteps 2, allocations 0, threads 1, violations 0\nstatus 0\n",
-    ),
+];
+
+#[test]
+fn reports_traps_of_accesses(rt: HostRuntime) -> Result<(), Fail> {
+    serve(&rt, rt.alloc(), &TRAPS, true)
+}
+
+/// Other ends.
+const ENDS: [Row; 6] = [
     (
         "solo p --turns 5",
         "bir 1 func @main() -> i64 { entry: br l l: br l }",
@@ -234,69 +268,6 @@ const ENDS: [Row; 12] = [
 ];
 
 #[test]
-fn reports_ends(rt: HostRuntime) -> Result<(), Fail> {
+fn reports_other_ends(rt: HostRuntime) -> Result<(), Fail> {
     serve(&rt, rt.alloc(), &ENDS, true)
-}
-
-/// Words, the program, the status and the report that comes, of threads by a schedule or at once.
-const THREADS: [Row; 12] = [
-    (
-        "load 7 1000",
-        SMALLEST,
-        0,
-        "load 7 1000: steps 4035, allocations 1, threads 5, violations 0\nstatus 0\n",
-    ),
-    (
-        "load 0000000000 10000",
-        SMALLEST,
-        0,
-        "load 0 10000: steps 40035, allocations 1, threads 5, violations 0\nstatus 0\n",
-    ),
-    (
-        "replay p 0,0,0,0,1,0",
-        RACING,
-        1,
-        "violation on allocation 1 by thread 0 at instruction 6, step 6: write 0..8 through tag 2: node 2 is Frozen at byte 0\n\
-        thread 0 returned 0\nthread 1 returned 0\nsteps 8, allocations 1, threads 2, violations 1\nstatus 1\n",
-    ),
-    (
-        "replay p 0,0,0,0,0,1",
-        RACING,
-        0,
-        "thread 0 returned 0\nthread 1 returned 0\nsteps 8, allocations 1, threads 2, violations 0\nstatus 0\n",
-    ),
-    ("solo p", TWO_HALVES, 0, HALVES_REPORT),
-    ("replay p 0,0,1,1,1,0", TWO_HALVES, 0, HALVES_REPORT),
-    ("run p", TWO_HALVES, 0, HALVES_REPORT),
-    ("run p", SMALLEST, 0, REPORT),
-    (
-        "run p --turns 5",
-        "bir 1 func @main() -> i64 { entry: br l l: br l }",
-        6,
-        "thread 0 reached the turn limit\nsteps 0, allocations 0, threads 1, violations 0\nstatus 6\n",
-    ),
-    // Whichever thread comes first, main waits for the child, which traps.
-    (
-        "run p",
-        "bir 1 func @f(ptr %x) -> void { e: %v = udiv i8 1, 0 ret void } \
-        func @main() -> i64 { e: %x = malloc 8 %h = spawn @f(ptr %x) store i64 1, %x join void %h ret i64 0 }",
-        5,
-        "thread 0 ended with thread 1\nthread 1 trapped: DivZero at instruction 0\n\
-        steps 3, allocations 1, threads 2, violations 0\nstatus 5\n",
-    ),
-    // The child's write through a shared borrow is a violation in each order.
-    (
-        "run p",
-        "bir 1 func @f(ptr %y) -> void { e: store i64 1, %y ret void } \
-        func @main() -> i64 { e: %x = malloc 8 %y = retag shr %x, 8 %h = spawn @f(ptr %y) join void %h free %x ret i64 0 }",
-        1,
-        "violation on allocation 1 by thread 1 at instruction 0, step 4: write 0..8 through tag 2: node 2 is Frozen at byte 0\n\
-        thread 0 returned 0\nthread 1 returned 0\nsteps 6, allocations 1, threads 2, violations 1\nstatus 1\n",
-    ),
-    ("replay p 1023,0", SMALLEST, 0, REPORT),
-];
-
-#[test]
-fn reports_threads(rt: HostRuntime) -> Result<(), Fail> {
-    serve(&rt, rt.alloc(), &THREADS, true)
 }

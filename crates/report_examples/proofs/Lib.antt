@@ -1,2 +1,0 @@
-mod Distinct
-mod Reportable
