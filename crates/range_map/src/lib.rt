@@ -98,6 +98,19 @@ fn compact<T: Copy + Eq>(first: T, later: &mut [Run<T>]) -> usize
 }
 
 impl<T: Copy + Eq> RangeMap<T> {
+    /// `len` bytes, at least one, in one run with this value. It takes no memory.
+    pub fn uniform(alloc: Global, len: u32, value: T) -> RangeMap<T>
+        requires { 1 ≤ len }
+        ensures bytes { result.bytes ≡ replicate len value }
+        ensures starts { result.starts ≡ 0 ∷ [] }
+    {
+        RangeMap {
+            first: value,
+            later: Vec::new(alloc),
+            len,
+        }
+    }
+
     /// `len` bytes, at least one, in one run with this value.
     ///
     /// # Errors
@@ -108,11 +121,7 @@ impl<T: Copy + Eq> RangeMap<T> {
         ensures bytes { IfOk result (λ m. m.bytes ≡ replicate len value) }
         ensures starts { IfOk result (λ m. m.starts ≡ 0 ∷ []) }
     {
-        Ok(RangeMap {
-            first: value,
-            later: Vec::new(alloc),
-            len,
-        })
+        Ok(RangeMap::uniform(alloc, len, value))
     }
 
     /// The value of the byte `at`, which lies below the length.

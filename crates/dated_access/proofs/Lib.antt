@@ -1,0 +1,10 @@
+pub mod PathLemmas
+pub mod DenialLemmas
+pub mod ChangeLemmas
+pub mod StepLemmas
+pub mod WholeLemmas
+pub mod PieceLemmas
+pub mod OthersLemmas
+pub mod DeniedLemmas
+pub mod SpanLemmas
+pub mod BeginLemmas

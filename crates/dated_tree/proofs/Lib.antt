@@ -1,0 +1,10 @@
+pub mod SeenLemmas
+pub mod EndedLemmas
+pub mod MeetLemmas
+pub mod PathLemmas
+pub mod AccessLemmas
+pub mod EagerLemmas
+pub mod SoundLemmas
+pub mod WholeLemmas
+pub mod StoredLemmas
+pub mod Finding

@@ -1,0 +1,13 @@
+pub mod Shape
+pub mod Dates
+pub mod Eager
+pub mod Seen
+pub mod Ended
+pub mod Path
+pub mod Meet
+pub mod Access
+pub mod Kept
+pub mod Stored
+pub mod Guards
+pub mod Adding
+pub mod Examples
