@@ -1,10 +1,14 @@
 //! The provenances of one frame, and how many more fit without memory.
-ghost use Rattle.std.specs.Prelude.{◌≡◌, [], ◌∷◌, ◌++◌, ◌+◌, ◌≤◌, IsOk, OnOk, OnErr};
+ghost use Rattle.std.specs.Prelude.{◌≡◌, [], ◌∷◌, ◌++◌, ◌+◌, ◌≤◌, ◌<◌, length, IsOk, OnOk, OnErr};
+ghost use Rattle.std.specs.List.{remove};
 
 use bsan_ids::{Copied, NoMemory, Prov, copy_vec};
 use std::alloc::Global;
 use std::marker::Model;
 
+/// The protectors of one frame, in the order in which they were made.
+///
+/// Contracts see `list`, and `spare`: how many more fit without memory.
 #[derive(Drop)]
 pub struct Frame {
     provs: Vec<Prov>,
@@ -20,6 +24,7 @@ impl Model for Frame {
 }
 
 impl Frame {
+    /// No protectors. It takes no memory.
     pub fn new(alloc: Global) -> Frame
         ensures { result.list ≡ [] }
     {
@@ -28,13 +33,14 @@ impl Frame {
         }
     }
 
+    /// The protectors.
     pub fn provs(&self) -> &[Prov]
         ensures { result.now ≡ self.now.list }
     {
         self.provs.as_slice()
     }
 
-    /// Makes room for one more provenance, where there is none yet.
+    /// Makes room for one more protector, where there is none yet.
     ///
     /// # Errors
     ///
@@ -49,12 +55,21 @@ impl Frame {
         Ok(())
     }
 
+    /// Appends a protector, where there is room for one.
     pub fn push(&mut self, prov: Prov)
         requires { 1 ≤ self.old.spare }
         ensures list { self.new.list ≡ self.old.list ++ prov ∷ [] }
         ensures spare { self.old.spare ≤ self.new.spare + 1 }
     {
         self.provs.push_reserved(prov);
+    }
+
+    /// Takes out the protector that was made first, of which there has to be one.
+    pub fn take_first(&mut self)
+        requires { 0 < length self.old.list }
+        ensures { self.new.list ≡ remove self.old.list 0 }
+    {
+        self.provs.remove(0);
     }
 }
 

@@ -5,4 +5,5 @@
 mod frame;
 mod frames;
 
+pub use frame::Frame;
 pub use frames::Frames;

@@ -7,8 +7,13 @@ ghost use Rattle.thread_parts.specs.Rooms.{HasRoom, has_none, made_of};
 
 use bsan_ids::{AllocNo, NoMemory, Prov, ThreadNo};
 use history::{Ask, Plain, Request};
+use protectors::Frame;
+use smallvec::SmallVec;
 use std::alloc::Global;
 use std::marker::Model;
+
+/// How many children, and how many allocations of the stack, take no memory of their own.
+const INLINE: usize = 2;
 
 /// An allocation of the stack, with the provenance of its pointer.
 #[derive(Clone, Copy)]
@@ -17,22 +22,32 @@ pub struct StackAllocation {
     pub prov: Option<Prov>,
 }
 
+/// What stands in an unused place of a short list.
+impl Default for StackAllocation {
+    fn default() -> StackAllocation {
+        StackAllocation {
+            number: AllocNo(0),
+            prov: None,
+        }
+    }
+}
+
 /// Children in the order in which they were started, protectors in the order in which they were made, and allocations
 /// of the stack, the newest last. Contracts see the newest first, and how many more of each fit without memory.
 #[derive(Drop)]
 pub struct Owned {
-    children: Vec<u32>,
-    protectors: Vec<Prov>,
-    stack: Vec<StackAllocation>,
+    children: SmallVec<u32, INLINE>,
+    protectors: Frame,
+    stack: SmallVec<StackAllocation, INLINE>,
 }
 
 impl Model for Owned {
-    ghost use Rattle.std.specs.Prelude.{map, reverse, ◌-◌, vec_len, vec_capacity};
+    ghost use Rattle.std.specs.Prelude.{map, reverse, ◌-◌, length};
     ghost use Rattle.thread_parts.specs.Rooms.{RoomyOwned, made_of};
 
     ghost Value = { RoomyOwned };
 
-    ghost view = { λ o. record { owned = record { children = o.children.items; protectors = o.protectors.items; stack = map made_of (reverse o.stack.items) }; children = vec_capacity o.children - vec_len o.children; protectors = vec_capacity o.protectors - vec_len o.protectors; stack = vec_capacity o.stack - vec_len o.stack } };
+    ghost view = { λ o. record { owned = record { children = o.children.items; protectors = o.protectors.list; stack = map made_of (reverse o.stack.items) }; children = o.children.capacity - length o.children.items; protectors = o.protectors.spare; stack = o.stack.capacity - length o.stack.items } };
 }
 
 /// The first place of a number in a list.
@@ -55,9 +70,9 @@ impl Owned {
         ensures { result.owned ≡ nothing_owned }
     {
         Owned {
-            children: Vec::new(alloc),
-            protectors: Vec::new(alloc),
-            stack: Vec::new(alloc),
+            children: SmallVec::new(alloc),
+            protectors: Frame::new(alloc),
+            stack: SmallVec::new(alloc),
         }
     }
 
@@ -66,7 +81,7 @@ impl Owned {
     pub fn is_empty(&self) -> bool
         ensures { result ≡ has_none (release_ask self.now.owned) }
     {
-        self.children.len() == 0 && self.protectors.len() == 0 && self.stack.len() == 0
+        self.children.is_empty() && self.protectors.provs().is_empty() && self.stack.is_empty()
     }
 
     /// What is to be given up first: a child is joined, a protector ended, or an allocation freed.
@@ -74,18 +89,18 @@ impl Owned {
     pub fn first(&self) -> Option<Ask>
         ensures { result ≡ release_ask self.now.owned }
     {
-        if let Some(child) = self.children.first() {
+        if let Some(child) = self.children.as_slice().first() {
             return Some(Ask::Join {
                 child: ThreadNo(*child),
             });
         }
-        if let Some(protector) = self.protectors.first() {
+        if let Some(protector) = self.protectors.provs().first() {
             return Some(Ask::At {
                 alloc: protector.alloc,
                 request: Request::EndProtector { tag: protector.tag },
             });
         }
-        match self.stack.last() {
+        match self.stack.as_slice().last() {
             Some(made) => Some(Ask::At {
                 alloc: made.number,
                 request: Request::Free {
@@ -110,7 +125,7 @@ impl Owned {
         ensures room { OnOk result (HasRoom self.new) }
     {
         self.children.reserve(1)?;
-        self.protectors.reserve(1)?;
+        self.protectors.reserve()?;
         self.stack.reserve(1)?;
         Ok(())
     }
@@ -136,7 +151,7 @@ impl Owned {
         ensures owned { self.new.owned ≡ self.old.owned }
         ensures room { OnOk result (1 ≤ self.new.protectors) }
     {
-        Ok(self.protectors.reserve(1)?)
+        self.protectors.reserve()
     }
 
     /// Makes room for an allocation of the stack.
@@ -165,7 +180,7 @@ impl Owned {
         ensures { self.new.owned ≡ protect plain.now carried self.old.owned }
     {
         if let (Plain::Retagged { added: true }, Some(prov)) = (plain, carried) {
-            self.protectors.push_reserved(prov);
+            self.protectors.push(prov);
         }
     }
 
@@ -182,7 +197,7 @@ impl Owned {
     pub fn remove_child(&mut self, child: u32)
         ensures { self.new.owned ≡ record self.old.owned { children = without child self.old.owned.children } }
     {
-        if let Some(place) = place_of(&self.children, child) {
+        if let Some(place) = place_of(self.children.as_slice(), child) {
             self.children.remove(place);
         }
     }
@@ -192,10 +207,10 @@ impl Owned {
     pub fn release(&mut self)
         ensures { self.new.owned ≡ released self.old.owned }
     {
-        if self.children.len() > 0 {
+        if !self.children.is_empty() {
             self.children.remove(0);
-        } else if self.protectors.len() > 0 {
-            self.protectors.remove(0);
+        } else if !self.protectors.provs().is_empty() {
+            self.protectors.take_first();
         } else {
             self.stack.pop();
         }
