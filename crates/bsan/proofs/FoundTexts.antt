@@ -9,9 +9,9 @@ use Rattle.history.specs.declared.record.RunRecord.{RunRecord}
 use Rattle.ir_ast.specs.declared.hosts.HostTable.{HostTable}
 use Rattle.ir_ast.specs.declared.program.Program.{Program}
 use Rattle.record_file.specs.Checked.{IsAnswer}
-use Rattle.record_file.specs.declared.clauses.Checked.TheVariants.{Fails}
+use Rattle.record_file.specs.declared.clauses.Checked.TheVariants.{Fails, Holds}
 use Rattle.record_file.specs.declared.clauses.Clause.{Clause}
-use Rattle.record_file.specs.declared.clauses.Clause.TheVariants.{A, B, C, D, F}
+use Rattle.record_file.proofs.Answering.{holds_iff}
 use Rattle.record_text.specs.Texts.{IsFirstWrong}
 use Rattle.record_text.proofs.Beginnings.{one_record, no_fault}
 use Rattle.source_sem.specs.Records.{IsRightRecord}
@@ -32,11 +32,8 @@ wrong_line program input hosts limits text line first right = no_fault limits.al
 -- a record of which a clause is broken is not right
 not_right : (program : Program) (input : List ℕ) (hosts : HostTable) (limits : Limits) (kept : RunRecord) (clause : Clause)
     → IsAnswer program input hosts limits kept (Fails clause) → IsRightRecord program input hosts limits kept → ⊥
-not_right program input hosts limits kept A fails right = fails right.right.threads
-not_right program input hosts limits kept B fails right = fails.1 right.right.runs
-not_right program input hosts limits kept C fails right = fails.2 right.right.run
-not_right program input hosts limits kept D fails right = fails.3 right.right.histories
-not_right program input hosts limits kept F fails right = fails.4 (right.right.runs, right.right.counts)
+not_right program input hosts limits kept clause fails right =
+    let no : Fails clause ≡ Holds = (holds_iff program input hosts limits kept (Fails clause) fails).1 right in cc
 
 broken_clause : (program : Program) (input : List ℕ) (hosts : HostTable) (limits : Limits) (text : List ℕ) (clause : Clause)
     → IsBrokenText program input hosts limits clause text → IsWrongText program input hosts limits text

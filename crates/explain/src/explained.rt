@@ -1,4 +1,5 @@
 //! A violation with its causes.
+use bsan_ids::{Copied, NoMemory};
 use history::Entry;
 
 /// The first violation on an allocation, and the earlier steps on it that led to it.
@@ -12,4 +13,14 @@ pub struct Explained {
     pub violation: Entry,
     pub maker: Option<Entry>,
     pub changer: Option<Entry>,
+}
+
+impl Copied for Explained {
+    fn copy(&self) -> Result<Explained, NoMemory> {
+        Ok(Explained {
+            violation: self.violation.copy()?,
+            maker: self.maker.copy()?,
+            changer: self.changer.copy()?,
+        })
+    }
 }

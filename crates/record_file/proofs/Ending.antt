@@ -10,11 +10,11 @@ use Rattle.history.specs.declared.log.End.{End}
 use Rattle.history.specs.declared.log.End.TheVariants as log_end
 use Rattle.history.specs.declared.log.ThreadLog.{ThreadLog}
 use Rattle.runs.specs.Parts.{Has}
-use Rattle.runs.specs.Right.{HasRuns}
 use Rattle.runs.proofs.Tracking.{some_inj}
 use Rattle.source_sem.specs.Source.{Setting, source}
 use Rattle.record_file.specs.declared.feed.Child.{Child}
 use Rattle.record_file.specs.declared.reached.Standing.{Standing}
+use Rattle.record_file.specs.AsWritten.{HasRunsAsWritten}
 use Rattle.record_file.specs.ByNumber.{IsSmall}
 use Rattle.record_file.specs.Joins.{AreJoinedRight, EndsRight, JoinsRight}
 use Rattle.record_file.specs.Reaching.{AllStand, ComesOn, HasCome, left, main_in}
@@ -56,12 +56,12 @@ module _ (x : Setting) (limits : Limits) (main : ℕ) (logs : List ThreadLog) wh
   came_on true before standing waiting is h = h
   came_on false before standing waiting is h = absurd (let no : false ≡ true = is in cc)
 
-  pub came_not : (b : Bool) (before standing : List (Option Standing)) (waiting : List Child) → b ≡ false → ComesOn b x limits main logs before standing waiting → HasRuns (source x) limits (main_in x main) logs → ⊥
+  pub came_not : (b : Bool) (before standing : List (Option Standing)) (waiting : List Child) → b ≡ false → ComesOn b x limits main logs before standing waiting → HasRunsAsWritten (source x) limits (main_in x main) logs → ⊥
   came_not true before standing waiting is h r = let no : true ≡ false = is in cc
   came_not false before standing waiting is h r = h r
 
   -- the logs of runs are joined right
-  pub runs_joined : HasRuns (source x) limits (main_in x main) logs → AreJoinedRight logs
+  pub runs_joined : HasRunsAsWritten (source x) limits (main_in x main) logs → AreJoinedRight logs
   runs_joined r log there = (λ e own. by_request e own e.request refl, by_end log.«end» refl)
     where
       by_request : (e : Entry) → Has log.entries e → (q : Request) → e.request ≡ q → JoinsRight logs e q

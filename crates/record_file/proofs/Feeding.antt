@@ -7,13 +7,15 @@ use Rattle.history.specs.declared.ask.Ask.TheVariants as ask
 use Rattle.history.specs.declared.entry.Entry.{Entry}
 use Rattle.runs.specs.Machine.{Machine, MayGoOn, TurnsWithin, SettlesWithin}
 use Rattle.runs.specs.Parts.{Answers, child_of}
-use Rattle.runs.specs.Threads.{Fed, Feeds, StartsAs, CountsTurns}
-use Rattle.runs.specs.Tree.{Agrees, started_by}
+use Rattle.runs.specs.Threads.{CountsTurns}
+use Rattle.runs.specs.Tree.{started_by}
 use Rattle.source_sem.specs.Source.{Setting, Source, source, source_ask, source_answer, source_child, source_fits, source_site, source_turn}
 use Rattle.record_file.specs.declared.feed.Child.{Child}
 use Rattle.runs.proofs.Feeding.{settles_one_more}
+use Rattle.runs.proofs.Standing.{stands_once}
 use Rattle.source_sem.proofs.Stepping.{instructions_count}
 use Rattle.source_machine.specs.Running.{Running}
+use Rattle.record_file.specs.AsWritten.{AllBeginAs, BeginsAs, ChildBeginsAs, FedAsWritten, FeedsAsWritten}
 use Rattle.record_file.specs.Feeding.{firsts, AreOf, ComesTo, FeedsOne, HasFed, HasTurned, Settled, Takes, TakesAll, Refuses, TurnsOn, numbers, starts_of}
 use Rattle.record_file.specs.Starting.{HasStarted}
 use Rattle.record_file.proofs.Beginning.{starts_push}
@@ -33,17 +35,24 @@ module _ (M : Machine) (limit : ℕ) where
   at_rest zero t a h rests = h
   at_rest (suc n) t a h rests = absurd (rests h.0)
 
-  pub fed_there : (starts : ℕ → M.State) (s t : M.State) (e : Entry) (f : Fed M limit starts s e) → SettlesWithin M limit s t → M.ask t ≢ ask.Turn → t ≡ f.now
+  pub fed_there : (starts : ℕ → M.State) (s t : M.State) (e : Entry) (f : FedAsWritten M limit starts s e) → SettlesWithin M limit s t → M.ask t ≢ ask.Turn → t ≡ f.now
   fed_there starts s t e f g rests =
       let on = turns_rest f.settles.0 g.0 s f.now t e f.settles.1 g.1 f.asks in
       at_rest on.0 t f.now on.1 rests
+
+  -- a thread's last state is told by its log and its count of instructions
+  pub written_once : CountsTurns M → (starts : ℕ → M.State) (s a b : M.State) (es : List Entry) → FeedsAsWritten M limit starts s es a → FeedsAsWritten M limit starts s es b → M.count a ≡ M.count b → a ≡ b
+  written_once counts starts s a b [] f g same = stands_once M counts limit starts s a b [] f g same
+  written_once counts starts s a b (e ∷ es) f g same =
+      let here : f.0.now ≡ g.0.now = fed_there starts s f.0.now e g.0 f.0.settles (λ turn. no_turn f.0.now e turn f.0.asks) in
+      written_once counts starts (M.after f.0.now e) a b es f.1 (subst (λ z. FeedsAsWritten M limit starts (M.after z e) es b) (sym here) g.1) same
 
   may_at : (n : ℕ) (t a : M.State) → TurnsWithin M limit n t a → MayGoOn M limit a → MayGoOn M limit t
   may_at zero t a h may = subst (λ z. MayGoOn M limit z) (sym h) may
   may_at (suc n) t a h may = h.1
 
   -- none is taken where an instruction would begin at the limit
-  pub fed_may : (starts : ℕ → M.State) (s t : M.State) (e : Entry) → Fed M limit starts s e → SettlesWithin M limit s t → MayGoOn M limit t
+  pub fed_may : (starts : ℕ → M.State) (s t : M.State) (e : Entry) → FedAsWritten M limit starts s e → SettlesWithin M limit s t → MayGoOn M limit t
   fed_may starts s t e f g =
       let on = turns_rest f.settles.0 g.0 s f.now t e f.settles.1 g.1 f.asks in
       may_at on.0 t f.now on.1 f.may
@@ -65,20 +74,20 @@ module _ (M : Machine) (limit : ℕ) where
 
 -- children ----------------------------------------------------------------------
 
-pub agrees_push : (starts : ℕ → Source) (before : List Child) (child : Child) → Agrees starts (firsts (before ++ child ∷ [])) ↔ (Agrees starts (firsts before) × (starts child.number.0 ≡ child.machine.thread))
+pub agrees_push : (starts : ℕ → Source) (before : List Child) (child : Child) → AllBeginAs starts (firsts (before ++ child ∷ [])) ↔ (AllBeginAs starts (firsts before) × BeginsAs starts child.number.0 child.machine.thread)
 agrees_push starts [] child = (λ a. (tt, a.0), λ a. (a.1, tt))
 agrees_push starts (c ∷ cs) child =
     let more = agrees_push starts cs child in
     (λ a. (let m = more.0 a.1 in ((a.0, m.0), m.1)), λ a. (a.0.0, more.1 (a.0.1, a.1)))
 
 pub agrees_started : (x : Setting) (starts : ℕ → Source) (o : Option ℕ) (s : Source) (before after : List Child) → HasStarted x o s before after
-    → Agrees starts (firsts after) ↔ (Agrees starts (firsts before) × StartsAs (source x) starts o s)
+    → AllBeginAs starts (firsts after) ↔ (AllBeginAs starts (firsts before) × ChildBeginsAs starts o s)
 agrees_started x starts None s before after is =
-    (λ a. (subst (λ l. Agrees starts (firsts l)) is a, tt), λ a. subst (λ l. Agrees starts (firsts l)) (sym is) a.0)
+    (λ a. (subst (λ l. AllBeginAs starts (firsts l)) is a, tt), λ a. subst (λ l. AllBeginAs starts (firsts l)) (sym is) a.0)
 agrees_started x starts (Some c) s before after h =
     let push = agrees_push starts before h.0 in (
-      λ a. (let p = push.0 (subst (λ l. Agrees starts (firsts l)) h.4 a) in (p.0, ap starts (sym h.1) ∙ p.1 ∙ h.3)),
-      λ a. subst (λ l. Agrees starts (firsts l)) (sym h.4) (push.1 (a.0, ap starts h.1 ∙ a.1 ∙ sym h.3)),
+      λ a. (let p = push.0 (subst (λ l. AllBeginAs starts (firsts l)) h.4 a) in (p.0, subst (BeginsAs starts c) h.3 (subst (λ n. BeginsAs starts n h.0.machine.thread) h.1 p.1))),
+      λ a. subst (λ l. AllBeginAs starts (firsts l)) (sym h.4) (push.1 (a.0, subst (λ n. BeginsAs starts n h.0.machine.thread) (sym h.1) (subst (BeginsAs starts c) (sym h.3) a.1))),
     )
 
 -- one entry ---------------------------------------------------------------------
@@ -92,12 +101,12 @@ takes x turns s now e before after t settles rests may site asks fits started is
       λ p. (
           let f = p.1.0 in
           let here : now ≡ f.now = fed_there (source x) turns starts s now e f settles rests in
-          let child : StartsAs (source x) starts (child_of e) (source_child x now) = subst (λ z. StartsAs (source x) starts (child_of e) (source_child x z)) (sym here) f.child in
-          (agree.1 (p.0, child), subst (λ z. Feeds (source x) turns starts z es last) (sym is) (subst (λ z. Feeds (source x) turns starts (source_answer x z e.reply) es last) (sym here) p.1.1))),
+          let child : ChildBeginsAs starts (child_of e) (source_child x now) = subst (λ z. ChildBeginsAs starts (child_of e) (source_child x z)) (sym here) f.child in
+          (agree.1 (p.0, child), subst (λ z. FeedsAsWritten (source x) turns starts z es last) (sym is) (subst (λ z. FeedsAsWritten (source x) turns starts (source_answer x z e.reply) es last) (sym here) p.1.1))),
       λ q. (
           let both = agree.0 q.0 in
-          let f : Fed (source x) turns starts s e = record { now = now; settles = settles; may = may; site = site; asks = asks; fits = fits; child = both.1 } in
-          (both.0, (f, subst (λ z. Feeds (source x) turns starts z es last) is q.1))),
+          let f : FedAsWritten (source x) turns starts s e = record { now = now; settles = settles; may = may; site = site; asks = asks; fits = fits; child = both.1 } in
+          (both.0, (f, subst (λ z. FeedsAsWritten (source x) turns starts z es last) is q.1))),
     ))
 
 -- none is taken where an instruction would begin at the limit
@@ -170,8 +179,8 @@ module _ (turns : ℕ) (old : Running) (es : List Entry) (k : ℕ) (new : Runnin
         fed = λ starts last. (
             let f = h.fed starts last in
             let t = taken starts (drop (k + 1) es) last in (
-              λ p. (let q = f.0 p in t.0 (q.0, subst (λ l. Feeds (source old.setting) turns starts new.thread l last) here q.1)),
-              λ p. (let q = t.1 p in f.1 (q.0, subst (λ l. Feeds (source old.setting) turns starts new.thread l last) (sym here) q.1)),
+              λ p. (let q = f.0 p in t.0 (q.0, subst (λ l. FeedsAsWritten (source old.setting) turns starts new.thread l last) here q.1)),
+              λ p. (let q = t.1 p in f.1 (q.0, subst (λ l. FeedsAsWritten (source old.setting) turns starts new.thread l last) (sym here) q.1)),
             ));
       }
 
@@ -179,14 +188,14 @@ module _ (turns : ℕ) (old : Running) (es : List Entry) (k : ℕ) (new : Runnin
   fed_refused e here refuses starts last p =
       let q = (h.fed starts last).0 p in
       let r : Refuses old.setting turns new.thread (e ∷ drop (k + 1) es) = subst (λ y. Refuses y turns new.thread (e ∷ drop (k + 1) es)) h.setting (refuses (drop (k + 1) es)) in
-      r starts last (subst (λ l. Feeds (source old.setting) turns starts new.thread l last) here q.1)
+      r starts last (subst (λ l. FeedsAsWritten (source old.setting) turns starts new.thread l last) here q.1)
 
   pub fed_all : length es ≤ k → TakesAll old.setting turns old.thread es new.thread children
   fed_all le starts last =
       let f = h.fed starts last in
       let none = drop_end es k le in (
-        λ p. (let q = f.0 p in (q.0, subst (λ l. Feeds (source old.setting) turns starts new.thread l last) none q.1)),
-        λ p. f.1 (p.0, subst (λ l. Feeds (source old.setting) turns starts new.thread l last) (sym none) p.1),
+        λ p. (let q = f.0 p in (q.0, subst (λ l. FeedsAsWritten (source old.setting) turns starts new.thread l last) none q.1)),
+        λ p. f.1 (p.0, subst (λ l. FeedsAsWritten (source old.setting) turns starts new.thread l last) (sym none) p.1),
       )
 
 -- to a count -------------------------------------------------------------------------

@@ -24,3 +24,4 @@ pub mod Running
 pub mod Separating
 pub mod Threading
 pub mod Waiting
+pub mod RunsWritten

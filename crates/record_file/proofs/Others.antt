@@ -1,5 +1,5 @@
 -- The children that are not thread 0, and their first states.
-use Rattle.std.proofs.Common.{◌≡◌, ◌↔◌, ℕ, ◌+◌, true, false, List, [], ◌∷◌, ◌++◌, refl, sym, ◌∙◌, ap, subst, inl, inr, arith, sum_by}
+use Rattle.std.proofs.Common.{◌≡◌, ◌≢◌, ◌↔◌, ℕ, zero, suc, ◌+◌, true, false, List, [], ◌∷◌, ◌++◌, refl, sym, ◌∙◌, ap, subst, inl, inr, arith, sum_by}
 use Rattle.std.specs.Prelude.{◌==◌}
 use Rattle.std.proofs.lemmas.Bool.Decides.{eqb_tells}
 use Rattle.std.proofs.lemmas.List.Sums.{sum_by-cons, sum_by-append}
@@ -8,8 +8,9 @@ use Rattle.runs.specs.Tree.{Agrees, Firsts, first_numbers}
 use Rattle.runs.proofs.Weights.{equals, equals_other}
 use Rattle.source_sem.specs.Source.{Setting, Source}
 use Rattle.record_file.specs.declared.feed.Child.{Child}
+use Rattle.record_file.specs.AsWritten.{AllBeginAs, BeginsAs}
 use Rattle.record_file.specs.Feeding.{AreOf, IsOf, firsts, numbers}
-use Rattle.record_file.specs.Reaching.{AreMain, IsBare, main_in, others}
+use Rattle.record_file.specs.Reaching.{others}
 
 -- two lists of first states
 pub agrees_both : (starts : ℕ → Source) (ps qs : Firsts Source) → Agrees starts (ps ++ qs) ↔ (Agrees starts ps × Agrees starts qs)
@@ -60,24 +61,30 @@ of_others x (c ∷ cs) h = elim (eqb_tells c.number.0 0) [
   | inr miss ↦ subst (AreOf x) (sym (other_kept c cs miss.0)) (h.0, of_others x cs h.1)
 ]
 
-pub agrees_others : (starts : ℕ → Source) (cs : List Child) → Agrees starts (firsts cs) → Agrees starts (firsts (others cs))
+-- a child that is not thread 0 begins as said
+begins_other : (starts : ℕ → Source) (n : ℕ) (s : Source) → n ≢ 0 → BeginsAs starts n s → starts n ≡ s
+begins_other starts zero s other h = absurd (other refl)
+begins_other starts (suc n) s other h = h
+
+begins_own : (starts : ℕ → Source) (n : ℕ) (s : Source) → starts n ≡ s → BeginsAs starts n s
+begins_own starts zero s h = tt
+begins_own starts (suc n) s h = h
+
+-- children begin as said exactly where those that are not thread 0 do
+pub agrees_others : (starts : ℕ → Source) (cs : List Child) → AllBeginAs starts (firsts cs) → Agrees starts (firsts (others cs))
 agrees_others starts [] h = tt
 agrees_others starts (c ∷ cs) h = elim (eqb_tells c.number.0 0) [
   | inl hit ↦ subst (λ ds. Agrees starts (firsts ds)) (sym (zero_left c cs hit.0)) (agrees_others starts cs h.1)
-  | inr miss ↦ subst (λ ds. Agrees starts (firsts ds)) (sym (other_kept c cs miss.0)) (h.0, agrees_others starts cs h.1)
+  | inr miss ↦ subst (λ ds. Agrees starts (firsts ds)) (sym (other_kept c cs miss.0)) (begins_other starts c.number.0 c.machine.thread miss.1 h.0, agrees_others starts cs h.1)
 ]
 
--- thread 0 begins as main does
-pub agrees_all : (x : Setting) (main : ℕ) → IsBare x main → (starts : ℕ → Source) → starts 0 ≡ main_in x main → (cs : List Child) → AreOf x cs → AreMain main cs → Agrees starts (firsts (others cs)) → Agrees starts (firsts cs)
-agrees_all x main bare starts first [] of mains h = tt
-agrees_all x main bare starts first (c ∷ cs) of mains h = elim (eqb_tells c.number.0 0) [
-  | inl hit ↦
-      let args = of.0.1.0 in
-      let thread : c.machine.thread ≡ main_in x main = of.0.1.1 ∙ ap (λ k. Rattle.source_sem.specs.Source.source_start x k args) (mains c (inl refl) hit.1) ∙ bare args in
-      (ap starts hit.1 ∙ first ∙ sym thread, agrees_all x main bare starts first cs of.1 (λ d g. mains d (inr g)) (subst (λ ds. Agrees starts (firsts ds)) (zero_left c cs hit.0) h))
+pub agrees_all : (starts : ℕ → Source) (cs : List Child) → Agrees starts (firsts (others cs)) → AllBeginAs starts (firsts cs)
+agrees_all starts [] h = tt
+agrees_all starts (c ∷ cs) h = elim (eqb_tells c.number.0 0) [
+  | inl hit ↦ (subst (λ n. BeginsAs starts n c.machine.thread) (sym hit.1) tt, agrees_all starts cs (subst (λ ds. Agrees starts (firsts ds)) (zero_left c cs hit.0) h))
   | inr miss ↦
       let both : Agrees starts (firsts (c ∷ others cs)) = subst (λ ds. Agrees starts (firsts ds)) (other_kept c cs miss.0) h in
-      (both.0, agrees_all x main bare starts first cs of.1 (λ d g. mains d (inr g)) both.1)
+      (begins_own starts c.number.0 c.machine.thread both.0, agrees_all starts cs both.1)
 ]
 
 pub sum_others : (h : ℕ → ℕ) → h 0 ≡ 0 → (cs : List Child) → sum_by h (numbers (others cs)) ≡ sum_by h (numbers cs)

@@ -9,25 +9,24 @@ use Rattle.bsan_ids.specs.declared.numbers.ThreadNo.{ThreadNo}
 use Rattle.history.specs.declared.log.ThreadLog.{ThreadLog}
 use Rattle.runs.specs.Merge.{entries_of}
 use Rattle.runs.specs.Parts.{Has}
-use Rattle.runs.specs.Right.{AtLeast, HasThreads, HasRuns, IsReached, is_main, is_spawned, StandsAsking, asks_make, asks_spawn}
-use Rattle.runs.specs.Threads.{IsThreadRun}
+use Rattle.runs.specs.Right.{AtLeast, HasThreads, IsReached, is_main, is_spawned, asks_make, asks_spawn}
 use Rattle.runs.specs.Tree.{Agrees, Firsts, children_of, first_numbers}
 use Rattle.runs.proofs.LogLists.{entries_there}
 use Rattle.runs.proofs.Tracking.{length_set, some_inj}
 use Rattle.runs.proofs.Tying.{spawned_inj}
 use Rattle.runs.proofs.Weights.{equals, equals_same, equals_other, equals_cases}
 use Rattle.runs.proofs.WholeParts.{first_in, first_agrees}
-use Rattle.source_sem.specs.Source.{Setting, Source, source, source_start}
+use Rattle.source_sem.specs.Source.{Setting, Source, source}
 use Rattle.record_file.specs.declared.counters.Asking.{Asking}
 use Rattle.record_file.specs.declared.feed.Child.{Child}
 use Rattle.record_file.specs.declared.reached.Standing.{Standing}
+use Rattle.record_file.specs.AsWritten.{AsksAsWritten, HasRunsAsWritten, IsRunAsWritten}
 use Rattle.record_file.specs.Counts.{IsCount}
 use Rattle.record_file.specs.Feeding.{AreOf, firsts, numbers, starts_of, IsRun, IsNoRun}
 use Rattle.record_file.specs.Joins.{AreJoinedRight}
-use Rattle.record_file.specs.Reaching.{AllStand, AreAllRuns, AreMain, HasCome, IsBare, Stands, is_so, main_in, others, ran, so_many}
-use Rattle.record_file.proofs.Beginning.{starts_apart}
+use Rattle.record_file.specs.Reaching.{AllStand, AreAllRuns, HasCome, Stands, is_so, main_in, others, ran, so_many}
 use Rattle.record_file.proofs.Marking.{at_within, has_at, one_place, place_of, set_here, set_other, spawn_of}
-use Rattle.record_file.proofs.Others.{agrees_all, agrees_both, agrees_others, firsts_both, no_zero, of_both, of_one, of_others, of_parts, sum_both, sum_others, sum_waiting}
+use Rattle.record_file.proofs.Others.{agrees_all, agrees_both, agrees_others, firsts_both, no_zero, of_both, of_others, of_parts, sum_both, sum_others, sum_waiting}
 use Rattle.record_file.proofs.Ran.{children_once, entry_counts, ran_less, ran_set, ran_weighs, some_entry, some_ran}
 
 agrees_first : (starts : ℕ → Source) (ps : Firsts Source) (s t : Source) (n : ℕ) → Agrees starts ((n, s) ∷ ps) → starts n ≡ s
@@ -42,7 +41,7 @@ counted_last n rest c is =
 
 module _ (x : Setting) (limits : Limits) (main : ℕ) (logs : List ThreadLog) (threads : HasThreads main logs) where
   abbrev Runs : Type 0
-  Runs = HasRuns (source x) limits (main_in x main) logs
+  Runs = HasRunsAsWritten (source x) limits (main_in x main) logs
 
   -- what was found agrees with any runs
   module _ (ss : List (Option Standing)) (waiting : List Child) (h : HasCome x limits main logs ss waiting) where
@@ -124,25 +123,7 @@ module _ (x : Setting) (limits : Limits) (main : ℕ) (logs : List ThreadLog) (t
           none r.starts (log_starts r.starts agrees) (r.runs log (has_at logs i log at))
 
       module _ (cs : List Child) (a : Standing) (run : IsRun x limits c.machine.thread log cs a.makes a.spawns) (of : AreOf x cs) (named : numbers cs ≡ children_of log) where
-        children_agree : (r : Runs) → Agrees r.starts (firsts cs)
-        children_agree r =
-            let agrees = runs_agree ss (rest ++ c ∷ []) h r in
-            (run r.starts (log_starts r.starts agrees)).run.0 (r.runs log (has_at logs i log at))
-
-        child_starts : (starts : ℕ → Source) (ds : List Child) (d : Child) → Agrees starts (firsts ds) → Has ds d → starts d.number.0 ≡ d.machine.thread
-        child_starts starts [] d agrees g = absurd g
-        child_starts starts (e ∷ ds) d agrees (inl is) = subst (λ (z : Child). starts z.number.0 ≡ z.machine.thread) is agrees.0
-        child_starts starts (e ∷ ds) d agrees (inr g) = child_starts starts ds d agrees.1 g
-
-        -- thread 0 begins in main
-        pub main_children : Runs → AreMain main cs
-        main_children r d g zero_is =
-            let begins = (of_one x cs d of g).1 in
-            let thread = child_starts r.starts cs d (children_agree r) g in
-            let first : main_in x main ≡ source_start x d.function begins.0 = sym r.first ∙ ap r.starts (sym zero_is) ∙ thread ∙ begins.1 in
-            starts_apart x d.function main begins.0 [] (sym first)
-
-        module _ (bare : IsBare x main) (mains : AreMain main cs) (waits : slice_get ss i ≡ Some None) where
+        module _ (waits : slice_get ss i ≡ Some None) where
           abbrev later : List (Option Standing)
           later = slice_set ss i (Some a)
 
@@ -170,7 +151,7 @@ module _ (x : Setting) (limits : Limits) (main : ℕ) (logs : List ThreadLog) (t
           stands_here starts agrees =
               let old = old_part starts agrees in
               let by = run starts (log_starts starts old) in
-              let all = agrees_all x main bare starts (next_starts starts old).0 cs of mains (new_part starts agrees) in
+              let all = agrees_all starts cs (new_part starts agrees) in
               record { run = by.run.1 all; make = by.make all; spawn = by.spawn all }
 
           holds_later : (starts : ℕ → Source) → Agrees starts (h.known ++ more) → (j : ℕ) (other : ThreadLog) (b : Standing) → slice_get logs j ≡ Some other → slice_get later j ≡ Some (Some b) → Stands x limits starts other b
@@ -182,7 +163,7 @@ module _ (x : Setting) (limits : Limits) (main : ℕ) (logs : List ThreadLog) (t
           ]
 
           forced_later : (starts : ℕ → Source) → starts 0 ≡ main_in x main
-              → ((j : ℕ) (other : ThreadLog) (b : Standing) → slice_get logs j ≡ Some other → slice_get later j ≡ Some (Some b) → IsThreadRun (source x) limits starts other)
+              → ((j : ℕ) (other : ThreadLog) (b : Standing) → slice_get logs j ≡ Some other → slice_get later j ≡ Some (Some b) → IsRunAsWritten (source x) limits starts other)
               → Agrees starts (h.known ++ more)
           forced_later starts first runs =
               let old = h.forced starts first (λ j other b on is. runs j other b on (set_other ss i j (Some a) (not_here j b is) ∙ is)) in
@@ -409,19 +390,19 @@ are_all_runs x limits main logs threads ss h all joined n makes spawns = (
   all_run x limits main logs threads ss h all joined,
   λ r. (
       let each = stand_all x limits main logs threads ss h all r in (
-        is_count (StandsAsking (source x) asks_make limits r.starts) (λ a. a.makes) logs ss
-            (all_so (StandsAsking (source x) asks_make limits r.starts) (λ a. a.makes) logs ss h.long all (λ i l a at is. (each i l a at is).make)) h.long n.makes makes,
-        is_count (StandsAsking (source x) asks_spawn limits r.starts) (λ a. a.spawns) logs ss
-            (all_so (StandsAsking (source x) asks_spawn limits r.starts) (λ a. a.spawns) logs ss h.long all (λ i l a at is. (each i l a at is).spawn)) h.long n.spawns spawns,
+        is_count (AsksAsWritten (source x) asks_make limits r.starts) (λ a. a.makes) logs ss
+            (all_so (AsksAsWritten (source x) asks_make limits r.starts) (λ a. a.makes) logs ss h.long all (λ i l a at is. (each i l a at is).make)) h.long n.makes makes,
+        is_count (AsksAsWritten (source x) asks_spawn limits r.starts) (λ a. a.spawns) logs ss
+            (all_so (AsksAsWritten (source x) asks_spawn limits r.starts) (λ a. a.spawns) logs ss h.long all (λ i l a at is. (each i l a at is).spawn)) h.long n.spawns spawns,
       )),
 )
 
 -- at the start main waits
 pub begins : (x : Setting) (limits : Limits) (main : ℕ) (logs : List ThreadLog) (ss : List (Option Standing)) (c : Child) → length ss ≡ length logs → ((i : ℕ) (o : Option Standing) → slice_get ss i ≡ Some o → o ≡ None)
-    → c.number.0 ≡ 0 → c.function ≡ main → c.machine.setting ≡ x → c.machine.thread ≡ main_in x main → HasCome x limits main logs ss (c ∷ [])
-begins x limits main logs ss c long none zero_is function setting thread = record {
+    → c.number.0 ≡ 0 → c.machine.setting ≡ x → c.machine.thread ≡ main_in x main → HasCome x limits main logs ss (c ∷ [])
+begins x limits main logs ss c long none zero_is setting thread = record {
   long = long;
-  of = ((setting, ([], thread ∙ ap (λ k. source_start x k []) (sym function))), tt);
+  of = (setting, tt);
   known = (0, main_in x main) ∷ [];
   weigh = λ w nothing. (let a = nothing_ran (λ (l : ThreadLog). sum_by w (children_of l)) logs ss none in let empty : sum_by w [] ≡ 0 = refl in omega (arith, nothing, a, empty, sum_by-cons w 0 []));
   split = λ w. (

@@ -2,18 +2,9 @@
 use Rattle.std.proofs.Common.{◌≡◌, ◌≢◌, ℕ, ◌+◌, ◌<◌, true, false, List, [], ◌∷◌, ◌++◌, append_assoc, append-nil, take, refl, sym, ◌∙◌, ap, subst, inl, inr, arith}
 use Rattle.std.specs.Prelude.{Option, Some, None, slice_get, is_some}
 use Rattle.std.proofs.lemmas.Bool.Decides.{eqb_tells}
-use Rattle.runs.specs.Parts.{Has}
 use Rattle.record_file.specs.declared.feed.Child.{Child}
 use Rattle.record_file.specs.declared.reached.Standing.{Standing}
-use Rattle.record_file.specs.Reaching.{AreMain, others}
-use Rattle.record_file.proofs.Marking.{has_at}
-use Rattle.record_file.proofs.Threading.{taken_next}
-
-in_pushed : (P : Child → Type 0) (cs : List Child) (c : Child) → ((d : Child) → Has cs d → P d) → P c → (d : Child) → Has (cs ++ c ∷ []) d → P d
-in_pushed P [] c all one d (inl same) = subst P same one
-in_pushed P [] c all one d (inr h) = absurd h
-in_pushed P (b ∷ cs) c all one d (inl same) = all d (inl same)
-in_pushed P (b ∷ cs) c all one d (inr h) = in_pushed P cs c (λ e k. all e (inr k)) one d h
+use Rattle.record_file.specs.Reaching.{others}
 
 others_pushed : (cs : List Child) (c : Child) → others (cs ++ c ∷ []) ≡ others cs ++ others (c ∷ [])
 others_pushed [] c = refl
@@ -36,12 +27,6 @@ wait_other before seen after later c waits other is =
 pub wait_main : (before seen after : List Child) (c : Child) → after ≡ before ++ others seen → c.number.0 ≡ 0 → after ≡ before ++ others (seen ++ c ∷ [])
 wait_main before seen after c waits zero_is =
     waits ∙ ap (λ ds. before ++ ds) (sym (others_pushed seen c ∙ ap (λ ds. others seen ++ ds) (others_none c zero_is) ∙ append-nil (others seen)))
-
-pub main_more : (main : ℕ) (cs : List Child) (k : ℕ) (c : Child) → AreMain main (take k cs) → slice_get cs k ≡ Some c → (c.number.0 ≡ 0 → c.function ≡ main) → AreMain main (take (k + 1) cs)
-main_more main cs k c all here one d there = in_pushed (λ e. e.number.0 ≡ 0 → e.function ≡ main) (take k cs) c all one d (subst (λ xs. Has xs d) (taken_next cs k c here) there)
-
-pub main_there : (main : ℕ) (cs : List Child) (k : ℕ) (c : Child) → slice_get cs k ≡ Some c → AreMain main cs → c.number.0 ≡ 0 → c.function ≡ main
-main_there main cs k c here all = all c (has_at cs k c here)
 
 pub is_some_one : (o : Option Standing) → is_some o ≡ true → (a : Standing) × (o ≡ Some a)
 is_some_one None is = absurd (let no : false ≡ true = is in cc)

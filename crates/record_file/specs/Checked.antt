@@ -6,10 +6,11 @@ use Rattle.ir_ast.specs.declared.hosts.HostTable.{HostTable}
 use Rattle.ir_ast.specs.declared.program.Program.{Program}
 use Rattle.runs.specs.Merge.{merged}
 use Rattle.runs.specs.Objects.{objects}
-use Rattle.runs.specs.Right.{HasCounts, HasHistories, HasRuns, HasThreads, MergesToRun}
+use Rattle.runs.specs.Right.{HasCounts, HasHistories, HasThreads, MergesToRun}
 use Rattle.source_sem.specs.Records.{allowed, IsRightRecord}
 use Rattle.source_sem.specs.Source.{source}
 use Rattle.source_sem.specs.Starting.{main_of, main_start, setting_of}
+use Rattle.record_file.specs.AsWritten.{HasRunsAsWritten, StampsRise}
 use Rattle.record_file.specs.declared.clauses.Checked.{Checked}
 use Rattle.record_file.specs.declared.clauses.Checked.TheVariants.{Holds, Fails}
 use Rattle.record_file.specs.declared.clauses.Clause.TheVariants.{A, B, C, D, F}
@@ -19,13 +20,13 @@ module _ (program : Program) (input : List ℕ) (hosts : HostTable) (limits : Li
   abbrev pub ThreadsHold : Type 0
   ThreadsHold = HasThreads (main_of program) kept.threads
 
-  -- each log is a run of its thread
+  -- each log is a run of its thread, as it is written
   abbrev pub RunsHold : Type 0
-  RunsHold = HasRuns (source (setting_of program input hosts)) limits (main_start (setting_of program input hosts)) kept.threads
+  RunsHold = HasRunsAsWritten (source (setting_of program input hosts)) limits (main_start (setting_of program input hosts)) kept.threads
 
-  -- the merge is an interleaving run
+  -- stamps rise along each log, and the merge is an interleaving run
   abbrev pub MergeHolds : Type 0
-  MergeHolds = MergesToRun (source (setting_of program input hosts)) objects (allowed limits hosts) limits (main_start (setting_of program input hosts)) (merged kept.threads)
+  MergeHolds = StampsRise kept.threads × MergesToRun (source (setting_of program input hosts)) objects (allowed limits hosts) limits (main_start (setting_of program input hosts)) (merged kept.threads)
 
   -- the allocation logs are the histories
   abbrev pub HistoriesHold : Type 0

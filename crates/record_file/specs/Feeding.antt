@@ -7,14 +7,13 @@ use Rattle.history.specs.declared.ask.Ask.TheVariants as ask
 use Rattle.history.specs.declared.entry.Entry.{Entry}
 use Rattle.history.specs.declared.log.ThreadLog.{ThreadLog}
 use Rattle.runs.specs.Machine.{MayGoOn, SettlesWithin}
-use Rattle.runs.specs.Right.{asks_make, asks_spawn, StandsAsking}
-use Rattle.runs.specs.Threads.{Feeds, IsThreadRun}
+use Rattle.runs.specs.Right.{asks_make, asks_spawn}
 use Rattle.runs.specs.Parts.{child_of}
-use Rattle.runs.specs.Tree.{Firsts, Agrees, first_numbers, started_by}
+use Rattle.runs.specs.Tree.{Firsts, first_numbers, started_by}
 use Rattle.source_sem.specs.Source.{Setting, Source, source, source_ask, source_turn}
 use Rattle.source_machine.specs.Running.{Running}
 use Rattle.record_file.specs.declared.feed.Child.{Child}
-use Rattle.record_file.specs.Starting.{BeginsIn}
+use Rattle.record_file.specs.AsWritten.{AllBeginAs, AsksAsWritten, FeedsAsWritten, IsRunAsWritten}
 
 -- the thread has made its local turns and asks this; or an instruction would begin at the limit
 pub record Settled (x : Setting) (turns : ℕ) (s t : Source) (a : Option Ask) : Type 0 where
@@ -34,9 +33,9 @@ numbers children = first_numbers (firsts children)
 abbrev pub starts_of : List Entry → List ℕ
 starts_of entries = flat_map (λ e. started_by (child_of e)) entries
 
--- it is a thread of this program that begins in its function
+-- it is a thread of this program
 abbrev pub IsOf : Setting → Child → Type 0
-IsOf x c = (c.machine.setting ≡ x) × BeginsIn x c.function c.machine.thread
+IsOf x c = c.machine.setting ≡ x
 
 abbrev pub AreOf : Setting → List Child → Type 0
 AreOf x children = AllByRecursion (IsOf x) children
@@ -46,11 +45,11 @@ AreOf x children = AllByRecursion (IsOf x) children
 abbrev pub Takes : Setting → ℕ → Source → Entry → List Child → Source → List Child → Type 0
 Takes x turns s e before t after =
     (starts : ℕ → Source) (es : List Entry) (last : Source)
-    → (Agrees starts (firsts before) × Feeds (source x) turns starts s (e ∷ es) last) ↔ (Agrees starts (firsts after) × Feeds (source x) turns starts t es last)
+    → (AllBeginAs starts (firsts before) × FeedsAsWritten (source x) turns starts s (e ∷ es) last) ↔ (AllBeginAs starts (firsts after) × FeedsAsWritten (source x) turns starts t es last)
 
 -- it does not take the entry, whatever is fed to it after that
 abbrev pub Refuses : Setting → ℕ → Source → List Entry → Type 0
-Refuses x turns s es = (starts : ℕ → Source) (last : Source) → Feeds (source x) turns starts s es last → ⊥
+Refuses x turns s es = (starts : ℕ → Source) (last : Source) → FeedsAsWritten (source x) turns starts s es last → ⊥
 
 abbrev pub FeedsOne : Bool → Setting → ℕ → Source → Entry → List Child → Source → List Child → Type 0
 FeedsOne true x turns s e before t after = Takes x turns s e before t after
@@ -59,7 +58,7 @@ FeedsOne false x turns s e before t after = (es : List Entry) → Refuses x turn
 -- the thread takes the entries, and then stands in state t
 abbrev pub TakesAll : Setting → ℕ → Source → List Entry → Source → List Child → Type 0
 TakesAll x turns s es t children =
-    (starts : ℕ → Source) (last : Source) → Feeds (source x) turns starts s es last ↔ (Agrees starts (firsts children) × SettlesWithin (source x) turns t last)
+    (starts : ℕ → Source) (last : Source) → FeedsAsWritten (source x) turns starts s es last ↔ (AllBeginAs starts (firsts children) × SettlesWithin (source x) turns t last)
 
 -- the thread did a local turn next, within the limit, and has made it; or it does not
 abbrev pub TurnsOn : Bool → Setting → ℕ → Source → Source → Type 0
@@ -74,16 +73,16 @@ ComesTo false x turns s count t = (last : Source) → SettlesWithin (source x) t
 -- begun in this state the log is a run of its thread exactly where its children start as said, and then its thread stands where it
 -- asks a Make, or a Spawn, exactly where these say so
 pub record RunsBy (x : Setting) (limits : Limits) (first : Source) (log : ThreadLog) (children : List Child) (makes spawns : Bool) (starts : ℕ → Source) : Type 0 where
-  pub run : IsThreadRun (source x) limits starts log ↔ Agrees starts (firsts children)
-  pub make : Agrees starts (firsts children) → StandsAsking (source x) asks_make limits starts log ↔ (makes ≡ true)
-  pub spawn : Agrees starts (firsts children) → StandsAsking (source x) asks_spawn limits starts log ↔ (spawns ≡ true)
+  pub run : IsRunAsWritten (source x) limits starts log ↔ AllBeginAs starts (firsts children)
+  pub make : AllBeginAs starts (firsts children) → AsksAsWritten (source x) asks_make limits starts log ↔ (makes ≡ true)
+  pub spawn : AllBeginAs starts (firsts children) → AsksAsWritten (source x) asks_spawn limits starts log ↔ (spawns ≡ true)
 
 abbrev pub IsRun : Setting → Limits → Source → ThreadLog → List Child → Bool → Bool → Type 0
 IsRun x limits first log children makes spawns = (starts : ℕ → Source) → starts log.number.0 ≡ first → RunsBy x limits first log children makes spawns starts
 
 -- begun in this state the log is no run of its thread
 abbrev pub IsNoRun : Setting → Limits → Source → ThreadLog → Type 0
-IsNoRun x limits first log = (starts : ℕ → Source) → starts log.number.0 ≡ first → IsThreadRun (source x) limits starts log → ⊥
+IsNoRun x limits first log = (starts : ℕ → Source) → starts log.number.0 ≡ first → IsRunAsWritten (source x) limits starts log → ⊥
 
 -- the machine has made some local turns since its thread stood in state s
 pub record HasTurned (x : Setting) (turns : ℕ) (s : Source) (machine : Running) : Type 0 where
@@ -96,4 +95,4 @@ pub record HasFed (turns : ℕ) (old : Running) (es : List Entry) (taken : ℕ) 
   pub of : AreOf old.setting children
   pub started : numbers children ≡ starts_of (take taken es)
   pub fed : (starts : ℕ → Source) (last : Source)
-      → Feeds (source old.setting) turns starts old.thread es last ↔ (Agrees starts (firsts children) × Feeds (source old.setting) turns starts new.thread (drop taken es) last)
+      → FeedsAsWritten (source old.setting) turns starts old.thread es last ↔ (AllBeginAs starts (firsts children) × FeedsAsWritten (source old.setting) turns starts new.thread (drop taken es) last)

@@ -1,3 +1,4 @@
+pub mod AsWritten
 pub mod ByNumber
 pub mod Checked
 pub mod Counts

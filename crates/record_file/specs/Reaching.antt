@@ -1,17 +1,15 @@
 -- The logs that were run, and the threads that were started and wait for it.
 use Rattle.std.specs.Prelude.{◌≡◌, ◌↔◌, ◌+◌, ◌<◌, ◌≤◌, ℕ, not, ◌==◌, Bool, true, false, List, [], ◌∷◌, Option, Some, None, filter, length, slice_get, sum_by, count_by}
 use Rattle.bsan_ids.specs.declared.numbers.Limits.{Limits}
-use Rattle.history.specs.declared.ask.Arg.{Arg}
 use Rattle.history.specs.declared.log.ThreadLog.{ThreadLog}
-use Rattle.runs.specs.Parts.{Has}
-use Rattle.runs.specs.Right.{asks_make, asks_spawn, HasRuns, IsReached, StandsAsking}
-use Rattle.runs.specs.Threads.{IsThreadRun}
+use Rattle.runs.specs.Right.{asks_make, asks_spawn, IsReached}
 use Rattle.runs.specs.Tree.{Agrees, Firsts, children_of, first_numbers}
 use Rattle.runs.proofs.Weights.{equals}
 use Rattle.source_sem.specs.Source.{Setting, Source, source, source_start}
 use Rattle.record_file.specs.declared.counters.Asking.{Asking}
 use Rattle.record_file.specs.declared.feed.Child.{Child}
 use Rattle.record_file.specs.declared.reached.Standing.{Standing}
+use Rattle.record_file.specs.AsWritten.{AsksAsWritten, HasRunsAsWritten, IsRunAsWritten}
 use Rattle.record_file.specs.Counts.{IsCount}
 use Rattle.record_file.specs.Feeding.{AreOf, firsts, numbers}
 
@@ -34,15 +32,11 @@ left standing = sum_by one_left standing
 abbrev pub main_in : Setting → ℕ → Source
 main_in x main = source_start x main []
 
--- main has no parameters, so that arguments make no difference
-abbrev pub IsBare : Setting → ℕ → Type 0
-IsBare x main = (args : List Arg) → source_start x main args ≡ main_in x main
-
 -- the log is a run of its thread, which then stands so
 pub record Stands (x : Setting) (limits : Limits) (starts : ℕ → Source) (log : ThreadLog) (a : Standing) : Type 0 where
-  pub run : IsThreadRun (source x) limits starts log
-  pub make : StandsAsking (source x) asks_make limits starts log ↔ (a.makes ≡ true)
-  pub spawn : StandsAsking (source x) asks_spawn limits starts log ↔ (a.spawns ≡ true)
+  pub run : IsRunAsWritten (source x) limits starts log
+  pub make : AsksAsWritten (source x) asks_make limits starts log ↔ (a.makes ≡ true)
+  pub spawn : AsksAsWritten (source x) asks_spawn limits starts log ↔ (a.spawns ≡ true)
 
 -- children that are not thread 0
 abbrev pub others : List Child → List Child
@@ -58,19 +52,15 @@ pub record HasCome (x : Setting) (limits : Limits) (main : ℕ) (logs : List Thr
   pub main_once : sum_by (equals 0) (first_numbers known) ≡ 1
   pub holds : (starts : ℕ → Source) → Agrees starts known → (i : ℕ) (log : ThreadLog) (a : Standing) → slice_get logs i ≡ Some log → slice_get standing i ≡ Some (Some a) → Stands x limits starts log a
   pub forced : (starts : ℕ → Source) → starts 0 ≡ main_in x main
-      → ((i : ℕ) (log : ThreadLog) (a : Standing) → slice_get logs i ≡ Some log → slice_get standing i ≡ Some (Some a) → IsThreadRun (source x) limits starts log)
+      → ((i : ℕ) (log : ThreadLog) (a : Standing) → slice_get logs i ≡ Some log → slice_get standing i ≡ Some (Some a) → IsRunAsWritten (source x) limits starts log)
       → Agrees starts known
   pub within : (starts : ℕ → Source) → Agrees starts known → (starts 0 ≡ main_in x main) × Agrees starts (firsts waiting)
   pub reached : (n : ℕ) → 1 ≤ sum_by (equals n) (first_numbers known) → IsReached logs n
 
--- each of these children that is thread 0 begins in main
-abbrev pub AreMain : ℕ → List Child → Type 0
-AreMain main children = (c : Child) → Has children c → c.number.0 ≡ 0 → c.function ≡ main
-
 -- the waiting thread's log was run; or the logs aren't all runs
 abbrev pub ComesOn : Bool → Setting → Limits → ℕ → List ThreadLog → List (Option Standing) → List (Option Standing) → List Child → Type 0
 ComesOn true x limits main logs before standing waiting = HasCome x limits main logs standing waiting × (left standing < left before)
-ComesOn false x limits main logs before standing waiting = HasRuns (source x) limits (main_in x main) logs → ⊥
+ComesOn false x limits main logs before standing waiting = HasRunsAsWritten (source x) limits (main_in x main) logs → ⊥
 
 -- each was run
 abbrev pub AllStand : List (Option Standing) → Type 0
@@ -86,13 +76,13 @@ so_many so standing = count_by (is_so so) standing
 
 -- no thread waits any more; or the logs aren't all runs
 abbrev pub RunsReached : Option (List (Option Standing)) → Setting → Limits → ℕ → List ThreadLog → Type 0
-RunsReached None x limits main logs = HasRuns (source x) limits (main_in x main) logs → ⊥
+RunsReached None x limits main logs = HasRunsAsWritten (source x) limits (main_in x main) logs → ⊥
 RunsReached (Some standing) x limits main logs = HasCome x limits main logs standing []
 
 -- each log is a run, and so many stand where they ask for a number; or they aren't all runs
 abbrev pub AreAllRuns : Option Asking → Setting → Limits → ℕ → List ThreadLog → Type 0
-AreAllRuns None x limits main logs = HasRuns (source x) limits (main_in x main) logs → ⊥
+AreAllRuns None x limits main logs = HasRunsAsWritten (source x) limits (main_in x main) logs → ⊥
 AreAllRuns (Some n) x limits main logs =
-    HasRuns (source x) limits (main_in x main) logs
-    × ((r : HasRuns (source x) limits (main_in x main) logs)
-    → IsCount (StandsAsking (source x) asks_make limits r.starts) logs n.makes × IsCount (StandsAsking (source x) asks_spawn limits r.starts) logs n.spawns)
+    HasRunsAsWritten (source x) limits (main_in x main) logs
+    × ((r : HasRunsAsWritten (source x) limits (main_in x main) logs)
+    → IsCount (AsksAsWritten (source x) asks_make limits r.starts) logs n.makes × IsCount (AsksAsWritten (source x) asks_spawn limits r.starts) logs n.spawns)

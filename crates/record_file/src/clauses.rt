@@ -13,6 +13,7 @@ use crate::family::has_threads;
 use crate::good_merge::is_good_merge;
 use crate::merge::merge;
 use crate::reached::has_runs;
+use crate::run::stamps_rise;
 use crate::same::are_same_logs;
 use bsan_ids::{Limits, NoMemory};
 use history::RunRecord;
@@ -26,9 +27,9 @@ use std::alloc::Global;
 pub enum Clause {
     /// The threads started each other.
     A,
-    /// Each log is a run of its thread, with its end.
+    /// Each log is a run of its thread as it is written, with its end.
     B,
-    /// The merge is an interleaving run.
+    /// Stamps rise along each log, and the merge is an interleaving run.
     C,
     /// The allocation logs are the histories.
     D,
@@ -119,5 +120,8 @@ pub fn check(
     let Some(asking) = has_runs(alloc, machine, main, limits, logs)? else {
         return Ok(Checked::Fails(Clause::B));
     };
+    if !stamps_rise(logs) {
+        return Ok(Checked::Fails(Clause::C));
+    }
     check_rest(alloc, limits, hosts, kept, asking)
 }

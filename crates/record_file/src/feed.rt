@@ -1,7 +1,7 @@
 //! A thread that is fed the entries of its log.
 ghost use Rattle.std.specs.Prelude.{◌≡◌, ◌↔◌, ℕ, [], ◌++◌, ◌∷◌, Some, IfOk, OnOk, IsTrue, MatchOption};
 ghost use Rattle.history.specs.Replies.{Answers};
-ghost use Rattle.source_sem.specs.Source.{source_ask, source_child, source_fits};
+ghost use Rattle.source_sem.specs.Source.{source_ask, source_child};
 ghost use Rattle.runs.specs.Parts.{child_of};
 ghost use Rattle.record_file.specs.Feeding.{AreOf, ComesTo, FeedsOne, Refuses, Settled, TakesAll, TurnsOn, numbers, starts_of};
 ghost use Rattle.runs.specs.Tree.{started_by};
@@ -14,11 +14,10 @@ use history::{Ask, Entry, Plain, Request};
 use source_machine::SourceMachine;
 use std::alloc::Global;
 
-/// A thread that was started in a function, at its beginning.
+/// A thread that was started, at its beginning.
 #[derive(Drop)]
 pub(crate) struct Child<'p> {
     pub number: ThreadNo,
-    pub function: u32,
     pub machine: SourceMachine<'p>,
 }
 
@@ -43,7 +42,6 @@ fn settle(machine: &mut SourceMachine, turns: u64) -> Result<Option<Ask>, NoMemo
 }
 
 /// Adds the thread that the entry starts, if it starts one.
-#[tactic(auto, using(crate::proofs::Beginning::child_begins))]
 fn start_child<'p>(
     machine: &SourceMachine<'p>,
     entry: &Entry,
@@ -52,13 +50,9 @@ fn start_child<'p>(
     requires asks { Answers (source_ask machine.now.setting machine.now.thread) entry.now }
     ensures { OnOk result (HasStarted machine.now.setting (child_of entry.now) (source_child machine.now.setting machine.now.thread) children.old.items children.new.items) }
 {
-    if let (Request::Spawn { function }, Plain::Spawned(number)) = (
-        &entry.request,
-        &entry.reply.plain,
-    ) {
+    if let (Request::Spawn { .. }, Plain::Spawned(number)) = (&entry.request, &entry.reply.plain) {
         children.push(Child {
             number: *number,
-            function: *function,
             machine: machine.child()?,
         })?;
     }

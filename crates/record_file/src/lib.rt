@@ -21,4 +21,5 @@ mod same;
 mod written;
 
 pub use clauses::{Checked, Clause, check};
+pub use record_text::{RecordFault, read_record, write_record};
 pub use written::is_read_again;

@@ -2,7 +2,7 @@
 ghost use Rattle.std.specs.Prelude.{◌≡◌, ◌↔◌, ◌≤◌, ◌++◌, ◌∷◌, [], IfOk, IsTrue, OnOk, length};
 ghost use Rattle.std.specs.Option.{option_map};
 ghost use Rattle.runs.specs.Right.{HasThreads};
-ghost use Rattle.record_file.specs.Reaching.{AllStand, AreAllRuns, AreMain, ComesOn, HasCome, IsBare, RunsReached, main_in, others, so_many};
+ghost use Rattle.record_file.specs.Reaching.{AllStand, AreAllRuns, ComesOn, HasCome, RunsReached, main_in, others, so_many};
 
 use crate::counters::Asking;
 use crate::feed::Child;
@@ -19,18 +19,6 @@ use std::alloc::Global;
 pub(crate) struct Standing {
     pub makes: bool,
     pub spawns: bool,
-}
-
-/// Whether each child that is thread 0 begins in main, as thread 0 did.
-fn are_main(children: &Vec<Child>, main: u32) -> bool
-    ensures { IsTrue result ↔ AreMain main children.now.items }
-{
-    for child in children.as_slice() {
-        if child.number.0 == 0 && child.function != main {
-            return false;
-        }
-    }
-    true
 }
 
 /// Adds the children that are not thread 0 to the threads that wait.
@@ -55,7 +43,6 @@ fn run_child<'p>(
     mut child: Child<'p>,
 ) -> Result<bool, NoMemory>
     requires threads { HasThreads main logs.now }
-    requires bare { IsBare child.machine.setting main }
     requires come { HasCome child.machine.setting limits.now main logs.now standing.old.items (waiting.old.items ++ child ∷ []) }
     ensures { IfOk result (λ holds. ComesOn holds child.entry.machine.setting limits.now main logs.now standing.old.items standing.new.items waiting.new.items) }
 {
@@ -69,9 +56,6 @@ fn run_child<'p>(
     let Some(ran) = run_log(alloc, &mut child.machine, limits, &logs[at])? else {
         return Ok(false);
     };
-    if !are_main(&ran.children, main) {
-        return Ok(false);
-    }
     wait_for(waiting, ran.children)?;
     standing[at] = Some(Standing {
         makes: ran.asks_make,
@@ -129,7 +113,6 @@ fn run_reached<'p>(
     logs: &[ThreadLog],
 ) -> Result<Option<Vec<Option<Standing>>>, NoMemory>
     requires threads { HasThreads main logs.now }
-    requires bare { IsBare machine.setting main }
     requires begins { machine.thread ≡ main_in machine.setting main }
     ensures { IfOk result (λ found. RunsReached (option_map (λ v. v.items) found) machine.entry.setting limits.now main logs.now) }
 {
@@ -137,7 +120,6 @@ fn run_reached<'p>(
     let mut waiting = Vec::new(alloc);
     waiting.push(Child {
         number: ThreadNo(0),
-        function: main,
         machine,
     })?;
     while let Some(child) = waiting.pop() {
@@ -149,7 +131,7 @@ fn run_reached<'p>(
 }
 
 /// Whether each log is a run of its thread, which stands at its beginning, and of how many the thread stands where it asks for
-/// a number; `None` where they aren't all runs. The threads started each other, and main takes no arguments.
+/// a number; `None` where they aren't all runs. The threads started each other.
 ///
 /// # Errors
 ///
@@ -162,7 +144,6 @@ pub(crate) fn has_runs<'p>(
     logs: &[ThreadLog],
 ) -> Result<Option<Asking>, NoMemory>
     requires threads { HasThreads main logs.now }
-    requires bare { IsBare machine.setting main }
     requires begins { machine.thread ≡ main_in machine.setting main }
     ensures { IfOk result (λ found. AreAllRuns found machine.entry.setting limits.now main logs.now) }
 {

@@ -7,6 +7,7 @@ ghost use Rattle.runs.specs.Stamps.{RisesFrom};
 ghost use Rattle.runs.specs.Threads.{DrewBeyond, EndsAs, AsksStep, TrapsAs};
 ghost use Rattle.source_sem.specs.Source.{source, source_ask};
 ghost use Rattle.runs.specs.Tree.{children_of};
+ghost use Rattle.record_file.specs.AsWritten.{StampsRise};
 ghost use Rattle.record_file.specs.Feeding.{AreOf, IsNoRun, IsRun, numbers};
 
 use crate::feed::{Child, come_to, feed_all};
@@ -36,7 +37,7 @@ fn are_own(entries: &[Entry], number: ThreadNo) -> bool
 }
 
 /// Whether the stamps rise, the first of them above 0.
-pub(crate) fn rise(entries: &[Entry]) -> bool
+fn rise(entries: &[Entry]) -> bool
     ensures { IsTrue result ↔ RisesFrom 0 entries.now }
 {
     let mut last = 0;
@@ -45,6 +46,18 @@ pub(crate) fn rise(entries: &[Entry]) -> bool
             return false;
         }
         last = entry.stamp.0;
+    }
+    true
+}
+
+/// Whether the stamps rise along each log.
+pub(crate) fn stamps_rise(logs: &[ThreadLog]) -> bool
+    ensures { IsTrue result ↔ StampsRise logs.now }
+{
+    for log in logs {
+        if !rise(log.entries.as_slice()) {
+            return false;
+        }
     }
     true
 }
@@ -126,7 +139,7 @@ pub(crate) fn run_log<'p>(
     ensures ran { IfOk result (λ ran. MatchOption ran (IsNoRun machine.old.setting limits.now machine.old.thread log.now) (λ r. IsRun machine.old.setting limits.now machine.old.thread log.now r.children.items r.asks_make r.asks_spawn)) }
 {
     let entries = log.entries.as_slice();
-    if !are_own(entries, log.number) || !rise(entries) {
+    if !are_own(entries, log.number) {
         return Ok(None);
     }
     let Some(children) = feed_all(alloc, machine, limits.turns, entries)? else {

@@ -2,7 +2,6 @@ use Rattle.std.proofs.Common.{◌≡◌, sym, ◌∙◌, ap, subst, All}
 use Rattle.std.proofs.lemmas.Bool.{true≢false}
 use Rattle.history.specs.declared.entry.Entry.{Entry}
 use Rattle.runs.specs.Right.{asks_make, asks_spawn}
-use Rattle.runs.specs.Stamps.{RisesFrom}
 use Rattle.runs.specs.Threads.{EndsAs}
 use Rattle.source_sem.specs.Source.{source, source_ask}
 use Rattle.record_file.specs.Feeding.{IsNoRun, TakesAll}
@@ -63,7 +62,6 @@ returns-clause-ran c =
     let same = c.in_ok-come_to.ensures.setting ∙ c.in_ok-children.ensures.setting in
     let asked = c.in_ok-ask.ensures.asks ∙ ap (λ y. source_ask y last) same in
     let own : All (λ (e : Entry). e.thread ≡ log.number) log.entries = subst (λ es. All (λ (e : Entry). e.thread ≡ log.number) es) c.as_slice-entries.ensures (c.are_own.ensures.0 c.if-not-are_own.false) in
-    let rises : RisesFrom 0 log.entries = subst (λ es. RisesFrom 0 es) c.as_slice-entries.ensures (c.rise.ensures.0 c.if-not-rise.false) in
     let ends : EndsAs (source x) limits last log.«end» = subst (λ y. EndsAs (source y) limits last log.«end») same (c.ends_as.ensures.0 c.if-not-ends_as.false) in
-    is_run x limits s log t.thread children takes last came_here.0 came_here.1 own rises (sym c.site.ensures ∙ c.if-site-log.false) ends
+    is_run x limits s log t.thread children takes last came_here.0 came_here.1 own (sym c.site.ensures ∙ c.if-site-log.false) ends
     c.is_make.result c.is_spawn.result (c.is_make.ensures ∙ ap asks_make asked) (c.is_spawn.ensures ∙ ap asks_spawn asked)
