@@ -10,6 +10,7 @@ use Rattle.race_check.specs.Races.{AreFirstRaces}
 use Rattle.race_check.specs.declared.race.Race.{Race}
 use Rattle.notes.specs.Sources.{Source}
 use Rattle.notes.specs.Whole.{AreNotes}
+use Rattle.notes.specs.Words.{words_note}
 
 -- the file of the program on which a job has notes; `load` has none
 abbrev pub noted_file : Job → Option (List ℕ)
@@ -43,7 +44,11 @@ abbrev pub AreNotesOn : HostTable → RunRecord → List ℕ → Job → Source 
 AreNotesOn hosts kept notes (Hush run) source = AreNotes source hosts empty_record [] notes
 AreNotesOn hosts kept notes job source = AreReportNotes hosts kept notes job source
 
--- The notes of a call: none where nothing was asked for, or no text is kept that they could show; else those on it.
-abbrev pub AreShown : Bool → HostTable → RunRecord → (List ℕ → Option (List ℕ)) → Option Job → List ℕ → Type 0
-AreShown colours hosts kept text asked notes =
-    MatchOption asked (notes ≡ []) (λ job. MatchOption (source_for colours text job) (notes ≡ []) (AreNotesOn hosts kept notes job))
+-- The notes on a job: none where no text is kept that they could show; else those on it.
+abbrev pub AreJobNotes : Bool → HostTable → RunRecord → (List ℕ → Option (List ℕ)) → List ℕ → Job → Type 0
+AreJobNotes colours hosts kept text notes job = MatchOption (source_for colours text job) (notes ≡ []) (AreNotesOn hosts kept notes job)
+
+-- The notes of a call by these words: on the words, where they ask for nothing, and else on what they ask for.
+abbrev pub AreShown : Bool → HostTable → RunRecord → (List ℕ → Option (List ℕ)) → List (List ℕ) → Option Job → List ℕ → Type 0
+AreShown colours hosts kept text words asked notes =
+    MatchOption asked (notes ≡ words_note colours words) (AreJobNotes colours hosts kept text notes)

@@ -99,7 +99,7 @@ const READ_BETWEEN_NOTES: &str =
      --> p:4:3\n  |\n4 |   %x = alloca 8\n  |   ^\n\
      note: node 2, a mutable reference, was made here by thread 0, step 2\n \
      --> p:5:3\n  |\n5 |   %y = retag mut %x, 8\n  |   ^\n\
-     note: node 2 came into this state at byte 0 here by thread 0, step 4\n \
+     note: node 2 became Frozen at byte 0 by a read of bytes 0..8, here by thread 0, step 4\n \
      --> p:7:3\n  |\n7 |   %v = load i64, %x\n  |   ^\n\
      help: another pointer has read these bytes since, and may rely on them; write before that read, or borrow again for the write\n\n";
 
@@ -113,9 +113,9 @@ const PROTECTED_NOTES: &str =
      --> p:5:3\n  |\n5 |   %v = load i64, %q\n  |   ^\n\
      note: allocation 1, with its own node 1, was made here by thread 0, step 1\n  \
      --> p:10:3\n   |\n10 |   %x = alloca 8\n   |   ^\n\
-     note: node 3, a mutable reference, was made here by thread 0, step 3\n \
-     --> p:4:3\n  |\n4 |   store i64 1, %p\n  |   ^\n\
-     note: node 3 came into this state at byte 0 here by thread 0, step 4\n \
+     note: node 3, a mutable reference, was made at the entry of @f by thread 0, step 3\n \
+     --> p:2:20\n  |\n2 | func @f(ptr mut(8) %p, ptr %q) -> void {\n  |                    ^\n\
+     note: node 3 became Unique at byte 0 by a write of bytes 0..8, here by thread 0, step 4\n \
      --> p:4:3\n  |\n4 |   store i64 1, %p\n  |   ^\n\
      note: node 2, a shared reference to a cell, was made here by thread 0, step 2\n  \
      --> p:11:3\n   |\n11 |   %y = retag shrcell %x, 8\n   |   ^\n\
@@ -130,8 +130,8 @@ const FREED_INSIDE_NOTES: &str =
      --> p:4:3\n  |\n4 |   free %b\n  |   ^\n\
      note: allocation 1, with its own node 1, was made here by thread 0, step 1\n \
      --> p:9:3\n  |\n9 |   %b = malloc 8\n  |   ^\n\
-     note: node 2, a mutable reference, was made with this state here by thread 0, step 2\n \
-     --> p:4:3\n  |\n4 |   free %b\n  |   ^\n\
+     note: node 2, a mutable reference, was made with this state at the entry of @f by thread 0, step 2\n \
+     --> p:2:20\n  |\n2 | func @f(ptr mut(8) %b) -> void {\n  |                    ^\n\
      help: until the function returns that was given this reference, the allocation may not be freed; free it later, or hand it over as a box\n\n";
 
 const OUTSIDE: &str =
@@ -154,7 +154,9 @@ const NEIGHBOUR_NOTES: &str =
      --> p:7:3\n  |\n7 |   store i64 5, %p\n  |   ^\n\
      note: allocation 2, with its own node 2, was made here by thread 0, step 2\n \
      --> p:5:3\n  |\n5 |   %b = alloca 8\n  |   ^\n\
-     help: the pointer was made from no pointer to this allocation; derive it from one\n\n";
+     note: allocation 1, which the pointer may use, was made here by thread 0, step 1\n \
+     --> p:4:3\n  |\n4 |   %a = alloca 8\n  |   ^\n\
+     help: the pointer may use another allocation, and was moved out of it; derive one from a pointer to this allocation\n\n";
 
 const FREED: &str =
     "bir 1\nfunc @main() -> i64 {\nentry:\n  %p = malloc 8\n  free %p\n  %q = retag mut %p, 8\n  ret i64 0\n}\n";
@@ -174,9 +176,9 @@ const RACE: &str =
      %x = malloc 8\n  %h = spawn @f(ptr %x)\n  store i64 2, %x\n  join void %h\n  free %x\n  ret i64 0\n}\n";
 
 const RACE_NOTES: &str = "race on allocation 1\n\
-     note: one access was made here by thread 0, step 3\n  \
+     note: one access, a non-atomic write of bytes 0..8, was made here by thread 0, step 3\n  \
      --> p:11:3\n   |\n11 |   store i64 2, %x\n   |   ^\n\
-     note: the other was made here by thread 1, step 4\n \
+     note: the other access, a non-atomic write of bytes 0..8, was made here by thread 1, step 4\n \
      --> p:4:3\n  |\n4 |   store i64 1, %x\n  |   ^\n\
      help: nothing orders the two accesses; let one thread join the other before it goes on, or order them by atomic accesses\n\n";
 
@@ -190,11 +192,11 @@ const CUT: &str = "bir 1\nfunc @main(";
 
 const CUT_NOTES: &str =
     "not read: Unexpected at 17\n --> p:2:12\n  |\n2 | func @main(\n  |            ^\n\
-     help: no program goes on like this; the token here, or the one before it, is of the wrong kind or missing\n\n";
+     help: the text ends before the program does; each function ends with `}`, and each block with `br`, `condbr`, `ret` or `unreachable`\n\n";
 
 const CUT_COLOURS: &str =
-    "\x1b[1;31mnot read: Unexpected at 17\n\x1b[0m --> p:2:12\n  |\n2 | func @main(\n  |            ^\n\
-     \x1b[1;36mhelp: \x1b[0mno program goes on like this; the token here, or the one before it, is of the wrong kind or missing\n\n";
+    "\x1b[1;31mnot read: Unexpected at 17\x1b[0m\n --> p:2:12\n  |\n2 | func @main(\n  |            ^\n\
+     \x1b[1;36mhelp: \x1b[0mthe text ends before the program does; each function ends with `}`, and each block with `br`, `condbr`, `ret` or `unreachable`\n\n";
 
 const UNASSIGNED: &str =
     "bir 1\nfunc @main() -> i64 {\nentry:\n  condbr 1, a, b\na:\n  %r = const i64 4\n  br b\nb:\n  ret i64 %r\n}\n";

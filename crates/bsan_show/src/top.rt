@@ -18,7 +18,7 @@ use bsan::bsan_asked;
 use bsan_ids::NoMemory;
 use command_words::{Job, WordsFault, read_job};
 use hosts::Hosts;
-use notes::{Source, notes_of};
+use notes::{Source, notes_of, words_note};
 use outside_io::{Files, NoGate, Sink};
 use race_check::{Race, races};
 use run_record::RunRecord;
@@ -131,21 +131,22 @@ fn source_for<'a, S: Files>(
 }
 
 impl<'a, R: Threads + Wait + Sync> Outside<'a, R> {
-    /// The notes on what a call found by the words of which this is what `read_job` made.
+    /// The notes on what a call found by these words, of which the second is what `read_job` made.
     fn notes<S: Files>(
         &self,
+        words: &[String],
         asked: &Result<Job<'_>, WordsFault>,
         files: &Remembering<S>,
         kept: &RunRecord,
     ) -> Result<Vec<u8>, NoMemory>
         requires histories { AreHistories kept.now.allocs }
         requires distinct { HasDistinctStamps kept.now }
-        ensures { (words : Option jobs.Job) → IsReadOf words asked.now → IfOk result (λ notes.
-            shown.AreShown self.now.colours self.now.hosts.now.table kept.now (text_of files.now.first) words notes.items) }
+        ensures { (read : Option jobs.Job) → IsReadOf read asked.now → IfOk result (λ notes.
+            shown.AreShown self.now.colours self.now.hosts.now.table kept.now (text_of files.now.first) (map string_bytes words.now) read notes.items) }
     {
         let job = match asked {
             Ok(job) => job,
-            Err(WordsFault::Refused) => return Ok(Vec::new(self.alloc)),
+            Err(WordsFault::Refused) => return words_note(self.alloc, words, self.colours),
             Err(WordsFault::NoMemory) => return Err(NoMemory),
         };
         match source_for(self.colours, job, files) {
@@ -171,13 +172,13 @@ impl<'a, R: Threads + Wait + Sync> Outside<'a, R> {
             kept.new
             result.status }
         ensures notes { IfOk result.notes (λ notes. shown.AreShown self.now.colours self.now.hosts.now.table kept.new
-            (text_of files.new.first) (jobs.job_of (map string_bytes words.now)) notes.items) }
+            (text_of files.new.first) (map string_bytes words.now) (jobs.job_of (map string_bytes words.now)) notes.items) }
     {
         let asked = read_job(self.alloc, words);
         let status = bsan_asked(
             self.rt, self.alloc, &asked, files, out, &NoGate, self.hosts, kept,
         );
-        let notes = self.notes(&asked, files, kept);
+        let notes = self.notes(words, &asked, files, kept);
         Shown { status, notes }
     }
 }

@@ -30,9 +30,13 @@ shown_part l = map shown_byte (take most_shown (drop (skipped l) (l.before ++ l.
 abbrev pub margin : Line → List ℕ
 margin l = blanks (length (decimal l.number))
 
+-- as a text is shown
+abbrev pub shown_text : List ℕ → List ℕ
+shown_text text = map shown_byte text
+
 -- --> NAME:LINE:COLUMN
 abbrev pub place_row : List ℕ → Line → List ℕ
-place_row name l = margin l ++ (codes "--> " ++ (name ++ (codes ":" ++ (decimal l.number ++ (codes ":" ++ (decimal (length l.before + 1) ++ 10 ∷ []))))))
+place_row name l = margin l ++ (codes "--> " ++ (shown_text name ++ (codes ":" ++ (decimal l.number ++ (codes ":" ++ (decimal (length l.before + 1) ++ 10 ∷ []))))))
 
 abbrev pub empty_row : Line → List ℕ
 empty_row l = margin l ++ codes " |\n"

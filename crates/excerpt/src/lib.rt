@@ -14,4 +14,4 @@ mod shown;
 pub use laws::places_stand_at_numbers;
 pub use lines::{before_in_line, column_number, from_in_line, line_number};
 pub use places::instruction_places;
-pub use shown::{MOST_SHOWN, excerpt};
+pub use shown::{MOST_SHOWN, excerpt, shown_text};

@@ -79,6 +79,17 @@ fn margin(alloc: Global, line: &Line<'_>) -> Result<Vec<u8>, NoMemory>
     blanks(alloc, digits.len())
 }
 
+/// A text as it is shown to a person: a tab or a carriage return as a blank, a byte that isn't printable ASCII as `?`.
+///
+/// # Errors
+///
+/// `NoMemory`: out of memory.
+pub fn shown_text(alloc: Global, text: &[u8]) -> Result<Vec<u8>, NoMemory>
+    ensures { IfOk result (λ as_shown. as_shown.items ≡ shown.shown_text text.now) }
+{
+    Ok(text.iter().map(|b| shown_byte(*b)).collect(alloc)?)
+}
+
 fn push_place(
     alloc: Global,
     name: &str,
@@ -89,8 +100,10 @@ fn push_place(
 {
     let number = line.number;
     let column = line.before.len() + 1;
-    let place = format!(in alloc; "--> {name}:{number}:{column}\n")?;
+    let place = format!(in alloc; ":{number}:{column}\n")?;
     rows.extend_from_slice(&margin(alloc, line)?)?;
+    rows.extend_from_slice(b"--> ")?;
+    rows.extend_from_slice(&shown_text(alloc, name.as_bytes())?)?;
     rows.extend_from_slice(place.as_bytes())?;
     Ok(())
 }
@@ -149,8 +162,8 @@ fn push_cut(alloc: Global, line: &Line<'_>, rows: &mut Vec<u8>) -> Result<(), No
 /// The excerpt of an offset in a text that has this name: the name with the line's and the column's number, the line, and
 /// a mark under the byte at the offset.
 ///
-/// Each byte takes one column: a tab or a carriage return is shown as a blank, a byte that isn't printable ASCII as `?`. Of a
-/// line that is longer than `MOST_SHOWN` so many bytes are shown, with those at the offset among them, and a further row says
+/// Each byte takes one column: a tab or a carriage return is shown as a blank, a byte that isn't printable ASCII as `?`, in the
+/// name too. Of a line that is longer than `MOST_SHOWN` so many bytes are shown, with those at the offset among them, and a further row says
 /// how long it is and which columns they are.
 ///
 /// # Errors

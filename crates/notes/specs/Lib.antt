@@ -1,6 +1,9 @@
 pub mod Colours
+pub mod Deeds
+pub mod Entries
 pub mod Sources
 pub mod Meaning
+pub mod Cures
 pub mod Help
 pub mod Made
 pub mod Causes
@@ -8,4 +11,5 @@ pub mod Traps
 pub mod Violations
 pub mod Races
 pub mod Refusals
+pub mod Words
 pub mod Whole

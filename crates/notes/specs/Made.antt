@@ -2,6 +2,7 @@
 use Rattle.std.specs.Prelude.{ℕ, ◌==◌, Bool, false, true, ◌&&◌, Option, Some, None, List, [], ◌++◌, find, codes, if◌then◌else◌}
 use Rattle.std.specs.Fmt.{decimal}
 use Rattle.bsan_ids.specs.declared.numbers.AllocNo.{AllocNo}
+use Rattle.bsan_ids.specs.declared.numbers.Prov.{Prov}
 use Rattle.bsan_ids.specs.declared.numbers.Tag.{Tag}
 use Rattle.perm_table.specs.declared.RetagKind.{RetagKind}
 use Rattle.perm_table.specs.declared.RetagKind.TheVariants as kind
@@ -9,9 +10,21 @@ use Rattle.history.specs.Merge.{stamp_of}
 use Rattle.history.specs.Restriction.{number_of}
 use Rattle.history.specs.declared.entry.Entry.{Entry}
 use Rattle.history.specs.declared.entry.Request.{Request}
-use Rattle.history.specs.declared.entry.Request.TheVariants.{Retag}
+use Rattle.history.specs.declared.entry.Request.TheVariants.{Load, Store, Modify, CmpXchg, CopyOut, CopyIn, Retag, Free}
 use Rattle.history.specs.declared.log.AllocLog.{AllocLog}
 use Rattle.notes.specs.Sources.{Listing, note}
+
+-- what the pointer may use through which a step was asked
+abbrev pub used_prov : Request → Option Prov
+used_prov (Load at ty prov) = prov
+used_prov (Store at ty value carried prov) = prov
+used_prov (Modify at width op value prov) = prov
+used_prov (CmpXchg at width expected value prov) = prov
+used_prov (CopyOut at len prov) = prov
+used_prov (CopyIn at piece prov) = prov
+used_prov (Retag at len kind guard prov) = prov
+used_prov (Free at stack prov) = prov
+used_prov _ = None
 
 abbrev pub steps_of : Option AllocLog → List Entry
 steps_of None = []

@@ -7,4 +7,4 @@ abbrev pub source_meant : Source → sources.Source
 source_meant s = record { name = s.name.now; text = s.text.now; colours = s.colours }
 
 abbrev pub listing_meant : Listing → sources.Listing
-listing_meant l = record { source = source_meant l.source; places = l.places.now }
+listing_meant l = record { source = source_meant l.source; places = l.places.now; functions = l.functions.now; threads = l.threads.now }

@@ -23,7 +23,7 @@ abbrev pub refusal_line : ReadFault → List ℕ
 refusal_line fault = codes "not read: " ++ (fault_text fault ++ codes "\n")
 
 abbrev pub refusal_note : Source → ReadFault → List ℕ
-refusal_note s fault = heading s (refusal_line fault) ++ (excerpt s.name s.text (place_of fault) ++ help_line s (fault_help fault))
+refusal_note s fault = heading s (refusal_line fault) ++ (excerpt s.name s.text (place_of fault) ++ help_line s (fault_help s.text fault))
 
 abbrev pub rule_line : Rule → ℕ → List ℕ
 rule_line rule at = codes "not verified: " ++ (name_of rule ++ (codes " at " ++ (decimal at ++ codes "\n")))

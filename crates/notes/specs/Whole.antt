@@ -18,9 +18,10 @@ use Rattle.notes.specs.Violations.{run_notes}
 use Rattle.notes.specs.Races.{race_note}
 use Rattle.notes.specs.Refusals.{refusal_note, rule_note}
 
--- the text of a program, with the places of its instructions
-abbrev pub listing_of : Source → Program → Listing
-listing_of s program = record { source = s; places = instruction_places program }
+-- the text of a program, with the places of its instructions, and the threads of its run
+abbrev pub listing_of : Source → Program → RunRecord → Listing
+listing_of s program kept =
+    record { source = s; places = instruction_places program; functions = program.functions; threads = kept.threads }
 
 -- the notes on the run of an accepted program, with these explanations of its violations, and on these races of it
 abbrev pub accepted_notes : Listing → RunRecord → List Explained → List Race → List ℕ
@@ -40,5 +41,5 @@ pub data AreNotes (s : Source) (hosts : HostTable) (kept : RunRecord) (races : L
   unread : (f : ReadFault) → IsUnreadNote s f notes → AreNotes s hosts kept races notes
   unverified : (p : Program) (rule : Rule) (at : ℕ) → IsProgramOf s.text p → IsFirstBroken p hosts (fault rule at) → notes ≡ rule_note s rule at
       → AreNotes s hosts kept races notes
-  accepted : (p : Program) → IsProgramOf s.text p → IsAccepted p hosts → AreRunNotes (listing_of s p) kept races notes
+  accepted : (p : Program) → IsProgramOf s.text p → IsAccepted p hosts → AreRunNotes (listing_of s p kept) kept races notes
       → AreNotes s hosts kept races notes

@@ -4,12 +4,15 @@ ghost use Rattle.std.specs.Option.{option_copied};
 ghost use Rattle.notes.specs.Meaning.{listing_meant};
 ghost use Rattle.notes.specs.Causes as causes;
 
+use crate::deeds::deed_phrase;
 use crate::made::{number_of, push_node};
 use crate::source::{Listing, push_note};
 use bsan_ids::{NoMemory, Tag};
 use eager_tree::Violation;
 use explain::Explained;
-use history::{Entry, Verdict};
+use history::{Entry, Request, Verdict};
+use perm_table::Perm;
+use report::perm_name;
 use std::alloc::{AllocError, Global};
 
 /// The last change of the node's state, where it isn't the node's making.
@@ -31,45 +34,54 @@ fn made_phrase(change: Option<&Entry>) -> &'static str
     }
 }
 
-fn state_phrase(alloc: Global, node: Tag, offset: u32) -> Result<String, AllocError>
-    ensures { IfOk result (λ what. string_bytes what ≡ causes.state_phrase node offset) }
+fn state_phrase(
+    alloc: Global,
+    node: Tag,
+    perm: Perm,
+    offset: u32,
+    request: &Request,
+) -> Result<String, AllocError>
+    ensures { IfOk result (λ what. string_bytes what ≡ causes.state_phrase node perm offset request.now) }
 {
     let node = node.0;
-    format!(in alloc; "node {node} came into this state at byte {offset}")
+    let state = perm_name(perm);
+    let deed = deed_phrase(alloc, "a ", request)?;
+    format!(in alloc; "node {node} became {state} at byte {offset} by {deed},")
 }
 
+/// Adds the note of what gave a node its state at a byte, where that is given.
 fn push_state(
     alloc: Global,
     listing: &Listing<'_>,
-    node: Tag,
-    offset: u32,
+    what: (Tag, Perm, u32),
     change: Option<&Entry>,
     notes: &mut Vec<u8>,
 ) -> Result<(), NoMemory>
-    ensures { OnOk result (notes.new.items ≡ notes.old.items ++ causes.state_note (listing_meant listing.now) node offset (option_copied change.entry)) }
+    ensures { OnOk result (notes.new.items ≡ notes.old.items
+        ++ causes.state_note (listing_meant listing.now) what.0 what.1 what.2 (option_copied change.entry)) }
 {
     let Some(change) = change else {
         return Ok(());
     };
-    let what = state_phrase(alloc, node, offset)?;
+    let (node, perm, offset) = what;
+    let what = state_phrase(alloc, node, perm, offset, &change.request)?;
     push_note(alloc, listing, what.as_str(), change, notes)
 }
 
-/// Adds the notes on where a node was made, and since when it has its state at a byte.
+/// Adds the notes on where a node was made, and what gave it its state at a byte.
 fn push_node_notes(
     alloc: Global,
     listing: &Listing<'_>,
-    node: Tag,
-    offset: u32,
+    what: (Tag, Perm, u32),
     explained: &Explained,
     notes: &mut Vec<u8>,
 ) -> Result<(), NoMemory>
-    ensures { OnOk result (notes.new.items ≡ notes.old.items ++ causes.node_notes (listing_meant listing.now) node offset explained.now) }
+    ensures { OnOk result (notes.new.items ≡ notes.old.items ++ causes.node_notes (listing_meant listing.now) what.0 what.1 what.2 explained.now) }
 {
     let maker = explained.maker.as_ref();
     let change = later_change(maker, explained.changer.as_ref());
     push_node(alloc, listing, made_phrase(change), maker, notes)?;
-    push_state(alloc, listing, node, offset, change, notes)
+    push_state(alloc, listing, what, change, notes)
 }
 
 fn freed_phrase(alloc: Global, step: &Entry) -> Result<String, AllocError>
@@ -107,8 +119,14 @@ pub fn push_causes(
 {
     match explained.violation.reply.verdict {
         Verdict::Violated(
-            Violation::Denied { offset, node, .. } | Violation::StrongFree { offset, node, .. },
-        ) => push_node_notes(alloc, listing, node, offset, explained, notes),
+            Violation::Denied {
+                offset,
+                node,
+                perm,
+                ..
+            }
+            | Violation::StrongFree { offset, node, perm },
+        ) => push_node_notes(alloc, listing, (node, perm, offset), explained, notes),
         Verdict::Violated(Violation::Freed) => {
             push_freed(alloc, listing, explained.changer.as_ref(), notes)
         }

@@ -1,16 +1,20 @@
 //! One sentence of help for each way to break a rule.
 ghost use Rattle.std.specs.Prelude.{◌≡◌};
+ghost use Rattle.std.specs.Option.{option_copied};
 ghost use Rattle.notes.specs.Help as help;
 
+use crate::cures::{byte_help, unexpected_help};
+use crate::made::used_prov;
+use bsan_ids::Prov;
 use eager_tree::Violation;
-use history::Verdict;
+use history::{Request, Verdict};
 use ir_reader::ReadFault;
 use ir_rules::Rule;
 use perm_table::{Perm, RetagKind};
 
-/// Where a node is disabled, by how it was made.
-fn disabled_help(kind: Option<RetagKind>) -> &'static str
-    ensures { result.now ≡ help.disabled_help kind }
+/// Where a node was disabled by a write, by how it was made.
+fn written_help(kind: Option<RetagKind>) -> &'static str
+    ensures { result.now ≡ help.written_help kind }
 {
     match kind {
         Some(RetagKind::Shr) => {
@@ -25,13 +29,28 @@ fn disabled_help(kind: Option<RetagKind>) -> &'static str
     }
 }
 
-/// Where a node may only be read, by how it was made.
-fn frozen_help(kind: Option<RetagKind>) -> &'static str
-    ensures { result.now ≡ help.frozen_help kind }
+/// Where a node is disabled, by how it was made, and by what disabled it.
+fn disabled_help(kind: Option<RetagKind>, change: Option<&Request>) -> &'static str
+    ensures { result.now ≡ help.disabled_help kind (option_copied change.entry) }
 {
-    match kind {
-        Some(RetagKind::Shr) => {
-            "nothing is written through a shared reference; take a mutable one, or a reference to a cell"
+    match change {
+        Some(Request::EndProtector { .. }) => {
+            "a function wrote through the reference that it was given, and its return counts as that write again, which ended this pointer; use it before that return, or borrow again after it"
+        }
+        _ => written_help(kind),
+    }
+}
+
+/// Where a node may only be read that was made to write, by what took that from it.
+fn read_help(change: Option<&Request>) -> &'static str
+    ensures { result.now ≡ help.read_help (option_copied change.entry) }
+{
+    match change {
+        Some(Request::Retag { .. }) => {
+            "another borrow of these bytes was made since, which reads them and may rely on them; write before that borrow, or borrow again for the write"
+        }
+        Some(Request::EndProtector { .. }) => {
+            "a function read through the reference that it was given, and its return counts as that read again; write before that return, or borrow again for the write"
         }
         _ => {
             "another pointer has read these bytes since, and may rely on them; write before that read, or borrow again for the write"
@@ -39,16 +58,40 @@ fn frozen_help(kind: Option<RetagKind>) -> &'static str
     }
 }
 
-/// Where a node's own state denies an access through it, by how the node was made.
-fn local_help(perm: Perm, kind: Option<RetagKind>) -> &'static str
-    ensures { result.now ≡ help.local_help perm kind }
+/// Where a node may only be read, by how it was made, and by what gave it that state.
+fn frozen_help(kind: Option<RetagKind>, change: Option<&Request>) -> &'static str
+    ensures { result.now ≡ help.frozen_help kind (option_copied change.entry) }
 {
-    match perm {
-        Perm::Frozen => frozen_help(kind),
-        Perm::Conflicted => {
+    match kind {
+        Some(RetagKind::Shr) => {
+            "nothing is written through a shared reference; take a mutable one, or a reference to a cell"
+        }
+        _ => read_help(change),
+    }
+}
+
+/// Where another pointer has read what a protected node may write, by what read it.
+fn conflicted_help(change: Option<&Request>) -> &'static str
+    ensures { result.now ≡ help.conflicted_help (option_copied change.entry) }
+{
+    match change {
+        Some(Request::Retag { .. }) => {
+            "another borrow of these bytes, which reads them, was made while the function runs that was given this reference; borrow from this reference until it returns"
+        }
+        _ => {
             "another pointer has read these bytes while the function runs that was given this reference; read them through this reference alone until it returns"
         }
-        _ => disabled_help(kind),
+    }
+}
+
+/// Where a node's own state denies an access through it, by how the node was made, and by what gave it this state.
+fn local_help(perm: Perm, kind: Option<RetagKind>, change: Option<&Request>) -> &'static str
+    ensures { result.now ≡ help.local_help perm kind (option_copied change.entry) }
+{
+    match perm {
+        Perm::Frozen => frozen_help(kind, change),
+        Perm::Conflicted => conflicted_help(change),
+        _ => disabled_help(kind, change),
     }
 }
 
@@ -66,9 +109,28 @@ fn protected_help(kind: Option<RetagKind>) -> &'static str
     }
 }
 
-/// The help for a verdict, by how the node was made that denies the step.
-pub fn verdict_help(verdict: &Verdict, kind: Option<RetagKind>) -> &'static str
-    ensures { result.now ≡ help.verdict_help verdict.now kind }
+/// Of a pointer with which no node of the allocation is named, by what it may use.
+fn stranger_help(prov: Option<Prov>) -> &'static str
+    ensures { result.now ≡ help.stranger_help prov }
+{
+    match prov {
+        None => {
+            "the pointer may use no allocation: it comes from null or from the host, or bytes of it were overwritten in memory; keep the pointer that the allocation gave, and store, load and copy it whole"
+        }
+        Some(_) => {
+            "the pointer may use another allocation, and was moved out of it; derive one from a pointer to this allocation"
+        }
+    }
+}
+
+/// The help for a verdict, by what was asked, how the node was made that denies it, and what gave that its state.
+pub fn verdict_help(
+    verdict: &Verdict,
+    asked: &Request,
+    kind: Option<RetagKind>,
+    change: Option<&Request>,
+) -> &'static str
+    ensures { result.now ≡ help.verdict_help verdict.now asked.now kind (option_copied change.entry) }
 {
     match verdict {
         Verdict::Violated(
@@ -77,14 +139,12 @@ pub fn verdict_help(verdict: &Verdict, kind: Option<RetagKind>) -> &'static str
                 local: true,
                 ..
             },
-        ) => local_help(*perm, kind),
+        ) => local_help(*perm, kind, change),
         Verdict::Violated(Violation::Denied { local: false, .. }) => protected_help(kind),
         Verdict::Violated(Violation::StrongFree { .. }) => {
             "until the function returns that was given this reference, the allocation may not be freed; free it later, or hand it over as a box"
         }
-        Verdict::Violated(Violation::Stranger) => {
-            "the pointer was made from no pointer to this allocation; derive it from one"
-        }
+        Verdict::Violated(Violation::Stranger) => stranger_help(used_prov(asked)),
         Verdict::Violated(Violation::Freed) => {
             "the allocation was freed before; borrow before the free"
         }
@@ -95,21 +155,19 @@ pub fn verdict_help(verdict: &Verdict, kind: Option<RetagKind>) -> &'static str
     }
 }
 
-/// The help for a refusal of a text.
-pub fn fault_help(fault: ReadFault) -> &'static str
-    ensures { result.now ≡ help.fault_help fault }
+/// The help for a refusal of this text.
+pub fn fault_help(text: &[u8], fault: ReadFault) -> &'static str
+    ensures { result.now ≡ help.fault_help text.now fault }
 {
     match fault {
         ReadFault::TooLarge { .. } => {
             "the text is too long, or it has a function, an instruction or a register too many; make the program smaller"
         }
-        ReadFault::BadByte { .. } => "no token begins with this byte; only a comment may hold it",
+        ReadFault::BadByte { at } => byte_help(text, at),
         ReadFault::IntToPtr { .. } => {
-            "no pointer is made from an integer; keep the pointer, or ask the host for an address and use it as such"
+            "no pointer is made from an integer, since it could use no allocation; keep the pointer itself, store and load it as `ptr`, and move it by `gep`"
         }
-        ReadFault::Unexpected { .. } => {
-            "no program goes on like this; the token here, or the one before it, is of the wrong kind or missing"
-        }
+        ReadFault::Unexpected { at } => unexpected_help(text, at as usize),
         ReadFault::NumberTooLarge { .. } => "the number is too large for its type, or for a size",
         ReadFault::NoMemory => "out of memory",
     }

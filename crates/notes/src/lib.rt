@@ -5,6 +5,9 @@
 
 mod causes;
 mod colours;
+mod cures;
+mod deeds;
+mod entries;
 mod help;
 mod made;
 mod races;
@@ -13,6 +16,8 @@ mod source;
 mod traps;
 mod violations;
 mod whole;
+mod words;
 
 pub use source::Source;
 pub use whole::notes_of;
+pub use words::words_note;

@@ -7,10 +7,27 @@ ghost use Rattle.notes.specs.Meaning.{listing_meant};
 ghost use Rattle.notes.specs.Made as made;
 
 use crate::source::{Listing, push_note};
-use bsan_ids::{AllocNo, NoMemory, Tag};
+use bsan_ids::{AllocNo, NoMemory, Prov, Tag};
 use history::{AllocLog, Entry, Request};
 use perm_table::RetagKind;
 use std::alloc::{AllocError, Global};
+
+/// What the pointer may use through which a step was asked.
+pub fn used_prov(request: &Request) -> Option<Prov>
+    ensures { result ≡ made.used_prov request.now }
+{
+    match request {
+        Request::Load { prov, .. }
+        | Request::Store { prov, .. }
+        | Request::Modify { prov, .. }
+        | Request::CmpXchg { prov, .. }
+        | Request::CopyOut { prov, .. }
+        | Request::CopyIn { prov, .. }
+        | Request::Retag { prov, .. }
+        | Request::Free { prov, .. } => *prov,
+        _ => None,
+    }
+}
 
 fn log_of(logs: &[AllocLog], number: AllocNo) -> Option<&AllocLog>
     ensures { option_copied result ≡ find (λ log. log.number.0 == number.0) logs.now }

@@ -4,8 +4,10 @@ ghost use Rattle.std.specs.List.{flat_map};
 ghost use Rattle.notes.specs.Meaning.{listing_meant};
 ghost use Rattle.notes.specs.Races as races;
 
+use crate::deeds::deed_phrase;
 use crate::source::{Listing, push_heading, push_help, push_note};
 use bsan_ids::NoMemory;
+use history::Entry;
 use race_check::Race;
 use std::alloc::{AllocError, Global};
 
@@ -19,6 +21,26 @@ fn race_line(alloc: Global, race: &Race) -> Result<String, AllocError>
     format!(in alloc; "race on allocation {number}\n")
 }
 
+fn access_phrase(alloc: Global, which: &str, step: &Entry) -> Result<String, AllocError>
+    ensures { IfOk result (λ what. string_bytes what ≡ races.access_phrase which.now step.now) }
+{
+    let deed = deed_phrase(alloc, "a non-atomic ", &step.request)?;
+    format!(in alloc; "{which}, {deed}, was made")
+}
+
+fn push_access(
+    alloc: Global,
+    listing: &Listing<'_>,
+    which: &str,
+    step: &Entry,
+    notes: &mut Vec<u8>,
+) -> Result<(), NoMemory>
+    ensures { OnOk result (notes.new.items ≡ notes.old.items ++ races.access_note (listing_meant listing.now) which.now step.now) }
+{
+    let what = access_phrase(alloc, which, step)?;
+    push_note(alloc, listing, what.as_str(), step, notes)
+}
+
 fn push_race(
     alloc: Global,
     listing: &Listing<'_>,
@@ -28,13 +50,14 @@ fn push_race(
     ensures { OnOk result (notes.new.items ≡ notes.old.items ++ races.race_note (listing_meant listing.now) race.now) }
 {
     push_heading(&listing.source, race_line(alloc, race)?.as_bytes(), notes)?;
-    push_note(alloc, listing, "one access was made", &race.earlier, notes)?;
-    push_note(alloc, listing, "the other was made", &race.later, notes)?;
+    push_access(alloc, listing, "one access", &race.earlier, notes)?;
+    push_access(alloc, listing, "the other access", &race.later, notes)?;
     push_help(&listing.source, HELP, notes)?;
     Ok(())
 }
 
-/// Adds the notes on data races: for each, in their order, the excerpts of both instructions and a sentence of help.
+/// Adds the notes on data races: for each, in their order, what both accesses did, the excerpts of their instructions and a
+/// sentence of help.
 pub fn push_races(
     alloc: Global,
     listing: &Listing<'_>,

@@ -42,7 +42,7 @@ pub fn refusal_note(
     let mut note = Vec::new(alloc);
     push_heading(source, refusal_line(alloc, fault)?.as_bytes(), &mut note)?;
     note.extend_from_slice(&excerpt(alloc, source.name, source.text, at)?)?;
-    push_help(source, fault_help(fault), &mut note)?;
+    push_help(source, fault_help(source.text, fault), &mut note)?;
     Ok(note)
 }
 

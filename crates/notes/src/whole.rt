@@ -30,12 +30,14 @@ fn accepted_notes(
     races: &[Race],
 ) -> Result<Vec<u8>, NoMemory>
     requires { AreHistories kept.now.allocs }
-    ensures { IfOk result (λ notes. whole.AreRunNotes (whole.listing_of (source_meant source.now) verified.now.program) kept.now races.now notes.items) }
+    ensures { IfOk result (λ notes. whole.AreRunNotes (whole.listing_of (source_meant source.now) verified.now.program kept.now) kept.now races.now notes.items) }
 {
     let places = instruction_places(alloc, verified.program())?;
     let listing = Listing {
         source: *source,
         places: &places,
+        functions: verified.program().functions.as_slice(),
+        threads: kept.threads.as_slice(),
     };
     let list = explain(alloc, kept)?;
     let mut notes = run_notes(alloc, &listing, kept, &list)?;
@@ -57,12 +59,13 @@ fn unread_note(alloc: Global, source: &Source<'_>, fault: ReadFault) -> Result<V
 /// The notes on what a call finds in a text: on the refusal of the text; or on the first rule that is broken in its program
 /// for this table of host functions; or on the run of the program, of which this is the record, and on these races of it.
 ///
-/// To each first violation of the run, in the order of the report, its line; the excerpt of its instruction; where the
-/// allocation was made; where the node was made that denies the step, and since when it has its state, or where the
-/// allocation was freed before; where the node was made through which the step was asked, where that is another; and a
-/// sentence of help, by the kind of the borrow that denies the step. Then where each thread trapped that did. To each race
-/// the excerpts of its two steps and a sentence of help. To a refusal and to a broken rule the excerpt of the place and a
-/// sentence of help.
+/// To each first violation of the run, in the order of the report, its line; the excerpt of its instruction, or of the
+/// parameter that is borrowed at a function's entry; where the allocation was made; what a step counts as that neither reads
+/// nor writes by its name; where the allocation was made that the pointer may use, where it is another; where the node was made
+/// that denies the step, and what gave it its state, or where the allocation was freed before; where the node was made through
+/// which the step was asked, where that is another; and a sentence of help, by the kind of the borrow that denies the step and
+/// by what gave it its state. Then where each thread trapped that did. To each race what its two steps did, their excerpts and a
+/// sentence of help. To a refusal and to a broken rule the excerpt of the place and a sentence of help.
 ///
 /// In the record the log of each allocation is a legal history. The table has fewer than 2^32 functions.
 ///

@@ -16,7 +16,7 @@ returns c =
     let t : List ℕ = c.push_help.new.notes.items in
     let line : List ℕ = heading s (refusal_line c.args.fault) in
     let shown : List ℕ = excerpt s.name s.text (place_of c.args.fault) in
-    let help : List ℕ = help_line s (fault_help c.args.fault) in
+    let help : List ℕ = help_line s (fault_help s.text c.args.fault) in
     let p1 : t1 ≡ t0 ++ line =
     grown_by t0 t1 (heading s c.as_bytes.result.now) line c.in_ok-push_heading.ensures
     (ap (heading s) (c.as_bytes.ensures.value ∙ c.in_ok-refusal_line.ensures)) in

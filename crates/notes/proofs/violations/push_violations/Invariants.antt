@@ -6,4 +6,4 @@ use Rattle.notes.proofs.violations.push_violations.Given as goal
 
 abbrev pub invariant-loop-explained : goal.invariant-loop-explained
 invariant-loop-explained l =
-    l.notes.items ≡ l.initial.notes.items ++ flat_map (violation_in (listing_meant l.listing) l.kept) (take l.explained-index l.list)
+    l.notes.items ≡ l.initial.notes.items ++ flat_map (violation_in (listing_meant l.listing) l.logs) (take l.explained-index l.list)

@@ -18,7 +18,7 @@ returns-in-Err c =
 pub returns-in-Ok-verify : goal.returns-in-Ok-verify
 returns-in-Ok-verify c =
     let s = source_meant c.args.source.now in
-    let of : Program → Vec ℕ → Type 0 = λ (p : Program) (notes : Vec ℕ). AreRunNotes (listing_of s p) c.args.kept.now c.args.races.now notes.items in
+    let of : Program → Vec ℕ → Type 0 = λ (p : Program) (notes : Vec ℕ). AreRunNotes (listing_of s p c.args.kept.now) c.args.kept.now c.args.races.now notes.items in
     IfOk-weaker c.accepted_notes.result (of c.in-Ok-verify.verified.program)
     (λ (note : Vec ℕ). AreNotes s c.args.hosts.now c.args.kept.now c.args.races.now note.items)
     (λ notes is. accepted c.in-Ok.program c.in-Ok.ensures.program c.in-Ok-verify.ensures.accepted
