@@ -205,6 +205,10 @@ const UNASSIGNED_NOTES: &str =
     "not verified: Unassigned at 94\n --> p:9:11\n  |\n9 |   ret i64 %r\n  |           ^\n\
      help: some path to this place doesn't define the register; define it on each, or make it a parameter of the block\n\n";
 
+const WRONG_WORDS_NOTES: &str =
+    "not so: solo\nhelp: `solo FILE`, with any of the options --input FILE, --steps N (1 to 4000000), \
+     --turns N (1 to 100000000) and --allocs N (1 to 65536), each once\n\n";
+
 /// Words, the program, whether notes are in colours, the status, and the notes that come.
 const NOTES: [(&str, &str, bool, u8, &str); 20] = [
     ("solo p", CONST_CAST, false, 1, CONST_CAST_NOTES),
@@ -226,7 +230,7 @@ const NOTES: [(&str, &str, bool, u8, &str); 20] = [
     ("solo p", UNASSIGNED, false, 4, UNASSIGNED_NOTES),
     ("check p", CONST_CAST, false, 0, ""),
     ("solo p", SMALLEST, true, 0, ""),
-    ("solo p --steps 0", CONST_CAST, false, 2, ""),
+    ("solo p --steps 0", CONST_CAST, false, 2, WRONG_WORDS_NOTES),
 ];
 
 #[test]
