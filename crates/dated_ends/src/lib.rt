@@ -1,5 +1,5 @@
-//! The end of a protector in a dated tree, a new node and a free, which answer as those of the eager
-//! tree for which it stands.
+//! Laws of the end of a protector in a dated tree, which answers as that of the eager tree for which
+//! it stands.
 #![tactic(auto)]
 
 mod laws;

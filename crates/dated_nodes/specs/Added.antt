@@ -1,15 +1,16 @@
 -- A node that is added to a tree.
-use Rattle.std.specs.Prelude.{◌≡◌, ℕ, ◌+◌, ◌<◌, ◌≤◌, None, List, [], ◌∷◌, ◌++◌, length, slice_index_or, if◌then◌else◌}
+use Rattle.std.specs.Prelude.{◌≡◌, ℕ, ◌+◌, ◌<◌, ◌≤◌, None, [], ◌∷◌, ◌++◌, length, slice_index_or}
 use Rattle.bsan_ids.specs.declared.numbers.Span.{Span}
 use Rattle.bsan_ids.specs.declared.numbers.Tag.{Tag}
 use Rattle.perm_table.specs.declared.Guard.{Guard}
 use Rattle.perm_table.specs.declared.RetagKind.{RetagKind}
-use Rattle.perm_table.specs.Table.{is_protected, starting}
+use Rattle.perm_table.specs.Table.{starting}
 use Rattle.eager_tree.specs.Steps.{is_within}
 use Rattle.dated_tree.specs.declared.node.Slot.{Slot}
 use Rattle.dated_tree.specs.declared.node.Node.{Node}
 use Rattle.dated_tree.specs.Shape.{Shape, no_slot}
 use Rattle.dated_tree.specs.Eager.{tag_at}
+use Rattle.dated_tree.specs.Adding.{with_guarded}
 
 -- the slot of a new node at a byte: it has met all that there was by now, and accessed the bytes of the span alone
 abbrev pub new_slot : RetagKind → Guard → Span → ℕ → ℕ → Slot
@@ -28,10 +29,6 @@ pub record IsChild (t : Shape) (x : ℕ) (span : Span) (kind : RetagKind) (guard
 abbrev pub IsNewest : Shape → Tag → Type 0
 IsNewest t tag = (place : ℕ) → place ≤ length t.nodes → (tag_at t place).0 < tag.0
 
--- the guarded places, with that of a new node if it has a guard
-abbrev pub guarded_with : Guard → ℕ → List ℕ → List ℕ
-guarded_with guard place guarded = if is_protected guard then guarded ++ place ∷ [] else guarded
-
 -- the tree with a further node as its last; the next access has a date of its own
 abbrev pub with_child : Node → Shape → Shape
-with_child node t = record t { nodes = t.nodes ++ node ∷ []; guarded = guarded_with node.guard (length t.nodes + 1) t.guarded; actor = None }
+with_child node t = record t { nodes = t.nodes ++ node ∷ []; guarded = with_guarded node.guard (length t.nodes + 1) t.guarded; actor = None }

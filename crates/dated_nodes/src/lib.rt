@@ -1,4 +1,4 @@
-//! A new node in a dated tree, and a free, which answer as those of the eager tree for which it stands.
+//! Laws of a new node in a dated tree, which is that of the eager tree for which it stands.
 #![tactic(auto)]
 
 mod laws;

@@ -1,5 +1,5 @@
 //! The stored tree and its node calls, by which a crate above reads and changes it.
-ghost use Rattle.std.specs.Prelude.{◌≡◌, ℕ, suc, ◌+◌, ◌-◌, ◌*◌, ◌<◌, ◌≤◌, ◌^◌, ◌++◌, ◌∷◌, min, length, [], Some, None, MatchBool, MatchOption, IfSome, IfOk, OnOk, IsFalse, IsTrue, ◌==◌, not, replicate, vec_capacity, slice_index_or};
+ghost use Rattle.std.specs.Prelude.{◌≡◌, ℕ, suc, ◌+◌, ◌-◌, ◌*◌, ◌<◌, ◌≤◌, ◌^◌, ◌++◌, ◌∷◌, min, length, [], Some, None, MatchBool, MatchOption, IfSome, IfOk, OnOk, OnErr, IsFalse, IsTrue, ◌==◌, not, replicate, vec_capacity, slice_index_or};
 ghost use Rattle.std.specs.List.{filter};
 ghost use Rattle.perm_table.specs.declared.Kind.{Kind as Access};
 ghost use Rattle.range_map.specs.Ranges.{overwrite, starts_after_set, next_start};
@@ -438,6 +438,7 @@ impl DatedTree {
         requires some { 1 ≤ place }
         requires stored { place ≤ length self.old.nodes }
         ensures ok { OnOk result (runs ≤ (node_at self.new.nodes place).runs.spare) }
+        ensures err { OnErr result ((node_at self.new.nodes place).runs ≡ (node_at self.old.nodes place).runs) }
         ensures tree { self.new ≡ record self.old { nodes = with_runs self.old.nodes place (node_at self.new.nodes place).runs } }
         ensures bytes { (node_at self.new.nodes place).runs.bytes ≡ (node_at self.old.nodes place).runs.bytes }
         ensures starts { (node_at self.new.nodes place).runs.starts ≡ (node_at self.old.nodes place).runs.starts }

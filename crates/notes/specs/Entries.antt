@@ -93,7 +93,6 @@ abbrev pub twins_before : List ThreadLog → Entry → ℕ
 twins_before threads step =
     count_by (is_twin step.request) (last_borrows step.site (before (stamp_of step) (steps_of threads step.thread.0)))
 
--- the parameter of this number among these, counted round
 -- the parameter's place, where it has the attribute by which such a borrow is made
 abbrev pub borrowed_place : Request → Param → List ℕ
 borrowed_place request p = if is_borrowed request p then p.reg.at ∷ [] else []
